@@ -1,0 +1,2 @@
+-- Lanes: definition, section 3.
+pub mod Lanes

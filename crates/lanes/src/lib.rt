@@ -1,0 +1,34 @@
+// Lanes: one or two, as the sheet names them or by the traffic (definition, section 3).
+ghost use mathlib.Core.Path.{_≡_};
+ghost use Rattle.lanes.specs.Lanes.{lanesOf, byTraffic};
+
+pub enum Lanes {
+    One,
+    Two,
+}
+
+// One lane while the channel's length times the ships stays under this many times the knots.
+const TRAFFIC: u64 = 4444800;
+
+// The lanes of a channel: those that are named, else by its length in m, its ships a day in hundredths and their speed in knots.
+pub fn lane_rule(named: u8, channel_length: u32, ships: u16, knots: u8) -> Lanes
+    ensures { λ r. ⌜ r ≡ lanesOf named «channel_length» ships knots ⌝ }
+{
+    if named == 1 {
+        return Lanes::One;
+    }
+    if named == 2 {
+        return Lanes::Two;
+    }
+    by_traffic(channel_length, ships, knots)
+}
+
+fn by_traffic(channel_length: u32, ships: u16, knots: u8) -> Lanes
+    ensures { λ r. ⌜ r ≡ byTraffic «channel_length» ships knots ⌝ }
+{
+    if (channel_length as u64) * (ships as u64) < TRAFFIC * (knots as u64) {
+        Lanes::One
+    } else {
+        Lanes::Two
+    }
+}

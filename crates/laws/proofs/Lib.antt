@@ -1,0 +1,6 @@
+pub mod Rounding
+pub mod Products
+pub mod Extremes
+pub mod First
+pub mod Every
+pub mod Unique

@@ -1,0 +1,1 @@
+// No code: the definitions and laws that several rooms share, in specs/ and proofs/.
