@@ -6,9 +6,9 @@ use Rattle.lanes.specs.declared.Lanes.the-variants.{One, Two}
 
 -- by the traffic: one lane exactly when channel length × ships < 4,444,800 × knots
 unfoldable pub byTraffic : ℕ → ℕ → ℕ → Lanes
-byTraffic channel-length ships knots = if channel-length * ships <ᵇ 4444800 * knots then One else Two
+byTraffic channel ships knots = if channel * ships <ᵇ 4444800 * knots then One else Two
 
 -- 1 and 2 name the lanes; else the traffic gives them
 unfoldable pub lanesOf : ℕ → ℕ → ℕ → ℕ → Lanes
-lanesOf named channel-length ships knots =
-    if named =ᵇ 1 then One else (if named =ᵇ 2 then Two else byTraffic channel-length ships knots)
+lanesOf named channel ships knots =
+    if named =ᵇ 1 then One else (if named =ᵇ 2 then Two else byTraffic channel ships knots)

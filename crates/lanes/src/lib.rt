@@ -11,8 +11,8 @@ pub enum Lanes {
 const TRAFFIC: u64 = 4444800;
 
 // The lanes of a channel: those that are named, else by its length in m, its ships a day in hundredths and their speed in knots.
-pub fn lane_rule(named: u8, channel_length: u32, ships: u16, knots: u8) -> Lanes
-    ensures { λ r. ⌜ r ≡ lanesOf named «channel_length» ships knots ⌝ }
+pub fn lane_rule(named: u8, channel: u32, ships: u16, knots: u8) -> Lanes
+    ensures { λ r. ⌜ r ≡ lanesOf named channel ships knots ⌝ }
 {
     if named == 1 {
         return Lanes::One;
@@ -20,13 +20,13 @@ pub fn lane_rule(named: u8, channel_length: u32, ships: u16, knots: u8) -> Lanes
     if named == 2 {
         return Lanes::Two;
     }
-    by_traffic(channel_length, ships, knots)
+    by_traffic(channel, ships, knots)
 }
 
-fn by_traffic(channel_length: u32, ships: u16, knots: u8) -> Lanes
-    ensures { λ r. ⌜ r ≡ byTraffic «channel_length» ships knots ⌝ }
+fn by_traffic(channel: u32, ships: u16, knots: u8) -> Lanes
+    ensures { λ r. ⌜ r ≡ byTraffic channel ships knots ⌝ }
 {
-    if (channel_length as u64) * (ships as u64) < TRAFFIC * (knots as u64) {
+    if (channel as u64) * (ships as u64) < TRAFFIC * (knots as u64) {
         Lanes::One
     } else {
         Lanes::Two

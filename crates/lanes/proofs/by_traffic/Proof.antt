@@ -9,7 +9,7 @@ use Rattle.lanes.proofs.by_traffic.Statement.{statement}
 use Rattle.lanes.proofs.by_traffic.Tie as tie
 
 mul-if1 : tie.Need-mul-if1
-mul-if1 c = record { fits = omega (arith, product-lt 32 16 {a = c .args .channel-length} {b = c .args .ships} (search needs) (search needs)) }
+mul-if1 c = record { fits = omega (arith, product-lt 32 16 {a = c .args .channel} {b = c .args .ships} (search needs) (search needs)) }
 
 mul-if1-2 : tie.Need-mul-if1-2
 mul-if1-2 c = search needs

@@ -1,0 +1,10 @@
+pub mod Groups
+pub mod Steps
+pub mod Regroup
+pub mod Widths
+pub mod RoundTrip
+pub mod Rules
+pub mod Beds
+pub mod Types
+pub mod Valid
+pub mod Answers

@@ -1,0 +1,6 @@
+-- The sheet: definition, section 1.
+pub mod Bits
+pub mod Fields
+pub mod Packing
+pub mod Sheets
+pub mod Refusals

@@ -1,0 +1,123 @@
+// The sheet: 28 bytes, 28 fields packed most significant bit first (definition, section 1).
+ghost use mathlib.Core.Path.{_≡_};
+ghost use Rattle.sheet.specs.Sheets.{readOf, writtenOf, placeOf};
+use datum::BelowChart;
+use datum::Level;
+
+mod bits;
+mod fields;
+mod figures;
+
+// Cross current and along current, in tenths of a knot: two types, so that neither stands in the other's column.
+pub struct CrossCurrent(pub u8);
+
+pub struct AlongCurrent(pub u8);
+
+// Where the design level comes from: off the record, or given with its figure.
+pub enum LevelSource {
+    FromRecord,
+    Given(Level),
+}
+
+// The fields of a sheet, in the order of their numbers.
+pub struct Sheet {
+    // 1, t
+    pub deadweight: u32,
+    // 2, 3 and 4, cm
+    pub draft: u16,
+    pub length: u16,
+    pub beam: u16,
+    // 5, knots
+    pub speed: u8,
+    // 6, the natural bed
+    pub bed: BelowChart,
+    // 7, a grade
+    pub soil: u8,
+    // 8, the wave allowance z2, cm
+    pub allowance: u16,
+    // 9, P, per mille a year
+    pub silting: u16,
+    // 10, 0 to 5
+    pub interval: u8,
+    // 11, 1, 2, or 0 by the traffic
+    pub lanes: u8,
+    // 12, the channel's length, m
+    pub channel: u32,
+    // 13, a day, in hundredths
+    pub ships: u16,
+    // 14, 0 open, 1 sheltered
+    pub water: u8,
+    // 15, 0 good, 1 fair, 2 poor
+    pub handling: u8,
+    // 16, knots
+    pub wind: u8,
+    // 17 and 18
+    pub cross: CrossCurrent,
+    pub along: AlongCurrent,
+    // 19, cm
+    pub wave: u16,
+    // 20, 0 to 3
+    pub aids: u8,
+    // 21, 0 soft, 1 hard and smooth, 2 hard and rough
+    pub bottom: u8,
+    // 22, 0 to 2
+    pub cargo: u8,
+    // 23 and 24, the left and the right bank, 0 sloping, 1 steep
+    pub left: u8,
+    pub right: u8,
+    // 25, degrees
+    pub turn: u8,
+    // 26, m
+    pub radius: u16,
+    // 27 and 28
+    pub level: LevelSource,
+}
+
+// What a string of bytes is read as: a sheet, or why it is none.
+pub enum SheetRead {
+    Good(Sheet),
+    WrongLength,
+    SpareBitSet,
+    BadField(u32),
+}
+
+// What writing a sheet answers.
+pub enum SheetWritten {
+    Done,
+    PlaceTooSmall,
+    BadField(u32),
+}
+
+// Any string of bytes as a sheet, or why it is none.
+pub fn read(bytes: &[u8]) -> SheetRead
+    ensures { λ r. ⌜ r ≡ readOf (now (bytes .entry)) ⌝ }
+{
+    if bytes.len() != 28 {
+        return SheetRead::WrongLength;
+    }
+    let groups = bits::split(bytes);
+    if groups[fields::COUNT] != 0 {
+        return SheetRead::SpareBitSet;
+    }
+    let bad = fields::first_bad(groups);
+    if bad != 0 {
+        return SheetRead::BadField(bad);
+    }
+    SheetRead::Good(figures::sheet_of(groups))
+}
+
+// Writes a sheet into the first 28 bytes of a place, or says why not and changes nothing.
+pub fn write(sheet: Sheet, place: &mut [u8]) -> SheetWritten
+    ensures { λ r. ⌜ (r ≡ writtenOf sheet (now (place .entry))) × (now (place .exit) ≡ placeOf sheet (now (place .entry))) ⌝ }
+{
+    if place.len() < 28 {
+        return SheetWritten::PlaceTooSmall;
+    }
+    let groups = figures::figures_of(sheet);
+    let bad = fields::first_bad(groups);
+    if bad != 0 {
+        return SheetWritten::BadField(bad);
+    }
+    bits::join(groups, place);
+    SheetWritten::Done
+}
