@@ -1,8 +1,9 @@
 -- A sheet's bytes, and its fields and spare bits, as groups of the same bits (section 1.3).
-use Prim.Native.Nat.{ℕ, zero, suc, _^_, _<_}
+use mathlib.Core.Path.{_≡_}
+use Prim.Native.Nat.{ℕ, zero, suc, _+_, _^_, _<_}
 use mathlib.Core.List.{List, [], _∷_}
-use Rattle.sheet.specs.Bits.{strung, joined, cut}
-use Rattle.sheet.specs.Fields.{groups, width, nth}
+use Rattle.sheet.specs.Bits.{strung, starts, joined, cut}
+use Rattle.sheet.specs.Fields.{count, groups, width, nth}
 
 -- a sheet has 28 bytes, each a group of eight bits
 abbrev pub size : ℕ
@@ -17,6 +18,11 @@ bitsOfBytes bytes = strung eight (nth bytes) size
 
 abbrev pub bitsOfGroups : List ℕ → List ℕ
 bitsOfGroups figures = strung width (nth figures) groups
+
+-- a bit past those of the fields is set: a spare bit
+pub record SpareSet (bytes : List ℕ) : Type 0 where
+  pub place : ℕ
+  pub set : nth (bitsOfBytes bytes) (starts width count + place) ≡ 1
 
 -- the values of f at i and the n - 1 places after it
 unfoldable pub listed : (ℕ → ℕ) → ℕ → ℕ → List ℕ

@@ -2,9 +2,8 @@
 -- Assumes nothing.
 use native.Mathlib.Omega.{arith}
 use borrow.Author.Needs.{needs}
-use borrow.Author.Tests.{lt-ltb, le-ltb}
 use Rattle.laws.proofs.Products.{product-lt}
-use Rattle.lanes.specs.Lanes.{byTraffic}
+use Rattle.lanes.proofs.Traffic.{under-limit, from-limit}
 use Rattle.lanes.proofs.by_traffic.Statement.{statement}
 use Rattle.lanes.proofs.by_traffic.Tie as tie
 
@@ -15,12 +14,10 @@ mul-if1-2 : tie.Need-mul-if1-2
 mul-if1-2 c = search needs
 
 returns : tie.Need-returns
-unfolding byTraffic
-returns c = rw (lt-ltb _ _ (c .if1 .taken))
+returns c = under-limit _ _ _ (c .if1 .taken)
 
 returns-2 : tie.Need-returns-2
-unfolding byTraffic
-returns-2 c = rw (le-ltb _ _ (c .if1 .left))
+returns-2 c = from-limit _ _ _ (c .if1 .left)
 
 pub by-traffic-spec : {M : Type 1} → statement M
 by-traffic-spec = tie.close (tie.spec mul-if1 mul-if1-2 returns returns-2)

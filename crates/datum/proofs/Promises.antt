@@ -1,0 +1,23 @@
+-- What the datums promise (sections 4.1 and 4.8).
+-- Assumes nothing.
+use mathlib.Core.Path.{_≡_}
+use Prim.Native.Nat.{ℕ, _+_, _-_, _≤_}
+use lib.IntN.{pos}
+use Rattle.laws.proofs.Unique.{one-answer}
+use Rattle.datum.specs.Datum.{below, belowChart, naturalDepth, datumDepth}
+use Rattle.datum.specs.declared.Level.{Level}
+use Rattle.datum.specs.declared.BelowLevel.{BelowLevel}
+use Rattle.datum.specs.declared.BelowChart.{BelowChart}
+use Rattle.datum.proofs.Natural.{natural-of-bed}
+
+-- Natural depth N = bed + level, or 0 if negative: of every bed and level that a sheet can have, with nothing lost.
+pub natural-depth : (bed held : ℕ) → bed ≤ 3000 → held ≤ 2000
+    → naturalDepth (belowChart (pos bed)) (record { 0 = held }) ≡ below (bed + held - 500)
+natural-depth = natural-of-bed
+
+-- One natural depth and one datum depth.
+pub natural-unique : (bed : BelowChart) (level : Level) (r s : BelowLevel) → r ≡ naturalDepth bed level → s ≡ naturalDepth bed level → r ≡ s
+natural-unique bed level = one-answer
+
+pub datum-unique : (cut : BelowLevel) (level : Level) (r s : BelowChart) → r ≡ datumDepth cut level → s ≡ datumDepth cut level → r ≡ s
+datum-unique cut level = one-answer

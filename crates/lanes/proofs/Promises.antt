@@ -1,0 +1,28 @@
+-- What the lane rule promises (section 3).
+-- Assumes nothing.
+use mathlib.Core.Path.{_≡_}
+use mathlib.Core.Logic.{_↔_}
+use Prim.Native.Nat.{ℕ, _*_, _<_}
+use Rattle.laws.proofs.Unique.{one-answer}
+use Rattle.lanes.specs.Lanes.{byTraffic, lanesOf}
+use Rattle.lanes.specs.declared.Lanes.{Lanes}
+use Rattle.lanes.specs.declared.Lanes.the-variants.{One, Two}
+use Rattle.lanes.proofs.Traffic.{one-exactly, by-traffic-else, named-one, named-two}
+
+-- One lane exactly when channel length × ships < 4,444,800 × knots; equal means two.
+pub one-lane : (channel ships knots : ℕ) → (byTraffic channel ships knots ≡ One) ↔ (channel * ships < 4444800 * knots)
+one-lane = one-exactly
+
+-- Field 11 at 1 or 2 overrides; at any other number the traffic decides.
+pub one-named : (channel ships knots : ℕ) → lanesOf 1 channel ships knots ≡ One
+one-named = named-one
+
+pub two-named : (channel ships knots : ℕ) → lanesOf 2 channel ships knots ≡ Two
+two-named = named-two
+
+pub none-named : (channel ships knots named : ℕ) → (named ≡ 1 → ⊥) → (named ≡ 2 → ⊥) → lanesOf named channel ships knots ≡ byTraffic channel ships knots
+none-named = by-traffic-else
+
+-- One answer.
+pub lanes-unique : (named channel ships knots : ℕ) (r s : Lanes) → r ≡ lanesOf named channel ships knots → s ≡ lanesOf named channel ships knots → r ≡ s
+lanes-unique named channel ships knots = one-answer

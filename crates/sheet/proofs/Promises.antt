@@ -1,0 +1,94 @@
+-- What the sheet promises, in the definition's words (sections 1 and 8). Each proof stands where it is cited.
+-- Assumes nothing.
+use mathlib.Core.Path.{_≡_}
+use mathlib.Core.List.{List}
+use mathlib.Core.Logic.{_↔_}
+use Prim.Native.Nat.{ℕ, _≤_, _<_}
+use lib.ListN.{length, take, drop}
+use Rattle.laws.specs.Extremes.{Least}
+use Rattle.laws.proofs.Unique.{one-answer}
+use Rattle.sheet.specs.Fields.{Bad}
+use Rattle.sheet.specs.Packing.{size, groupsOf, bytesOf, bitsOfBytes, bitsOfGroups, Bytes, SpareSet}
+use Rattle.sheet.specs.Sheets.{figuresOf, readOf, writtenOf, placeOf, Valid}
+use Rattle.sheet.specs.declared.Sheet.{Sheet}
+use Rattle.sheet.specs.declared.SheetRead.{SheetRead}
+use Rattle.sheet.specs.declared.SheetRead.the-variants.{Good, WrongLength, SpareBitSet, BadField}
+use Rattle.sheet.specs.declared.SheetWritten.{SheetWritten}
+use Rattle.sheet.specs.declared.SheetWritten.the-variants.{Done, PlaceTooSmall, BadField as BadFieldToWrite}
+use Rattle.sheet.proofs.Packed.{packed}
+use Rattle.sheet.proofs.OneWriting.{one-writing, read-place, Written, written-read}
+use Rattle.sheet.proofs.Reading.{wrong-length-exactly, spare-exactly, bad-field-exactly, good-exactly}
+use Rattle.sheet.proofs.Writing.{too-small-exactly, bad-to-write-exactly, done-exactly, refused-unchanged, past-unchanged}
+use Rattle.sheet.proofs.CaseS.{sheetS, bytesS, s-read, s-written}
+
+-- Fields packed most significant bit first: the bytes' bits in a row are the fields' bits in a row, then the spare bits.
+pub fields-in-a-row : (bytes : List ℕ) → Bytes bytes → bitsOfBytes bytes ≡ bitsOfGroups (groupsOf bytes)
+fields-in-a-row = packed
+
+-- 1: not 28 bytes.
+pub number-1 : (bytes : List ℕ) → (readOf bytes ≡ WrongLength) ↔ (length bytes ≡ size → ⊥)
+number-1 = wrong-length-exactly
+
+-- 2: a spare bit set, and not 1.
+pub number-2 : (bytes : List ℕ) → Bytes bytes → (readOf bytes ≡ SpareBitSet) ↔ ((length bytes ≡ size) × SpareSet bytes)
+number-2 = spare-exactly
+
+-- 3: a bad field, and neither 1 nor 2; the first one's number is given.
+pub number-3 : (bytes : List ℕ) → Bytes bytes → (k : ℕ)
+    → (readOf bytes ≡ BadField k) ↔ ((length bytes ≡ size) × (SpareSet bytes → ⊥) × Least (Bad (groupsOf bytes)) k)
+number-3 = bad-field-exactly
+
+-- Every other string of bytes is a sheet.
+pub else-a-sheet : (bytes : List ℕ) → Bytes bytes
+    → ((s : Sheet) × (readOf bytes ≡ Good s)) ↔ ((length bytes ≡ size) × (SpareSet bytes → ⊥) × ((k : ℕ) → Bad (groupsOf bytes) k → ⊥))
+else-a-sheet = good-exactly
+
+-- What is read is a valid sheet, and the bytes are its writing.
+pub read-is-valid : (bytes : List ℕ) (s : Sheet) → Bytes bytes → readOf bytes ≡ Good s → Written bytes s
+read-is-valid = written-read
+
+-- A sheet written and read again is the same sheet.
+pub written-and-read : (s : Sheet) (place : List ℕ) → size ≤ length place → Valid s → readOf (take size (placeOf s place)) ≡ Good s
+written-and-read = read-place
+
+-- Each sheet has one writing.
+pub each-one-writing : (a b : List ℕ) (s : Sheet) → Bytes a → Bytes b → readOf a ≡ Good s → readOf b ≡ Good s → a ≡ b
+each-one-writing = one-writing
+
+-- 12, tested first: a place lent for writing too small.
+pub number-12 : (s : Sheet) (place : List ℕ) → (writtenOf s place ≡ PlaceTooSmall) ↔ (length place < size)
+number-12 = too-small-exactly
+
+-- 3 in writing: a bad field, and not 12; the first one's number is given.
+pub number-3-written : (s : Sheet) (place : List ℕ) (k : ℕ)
+    → (writtenOf s place ≡ BadFieldToWrite k) ↔ ((size ≤ length place) × Least (Bad (figuresOf s)) k)
+number-3-written = bad-to-write-exactly
+
+-- Every other writing is done.
+pub else-done : (s : Sheet) (place : List ℕ) → (writtenOf s place ≡ Done) ↔ ((size ≤ length place) × ((k : ℕ) → Bad (figuresOf s) k → ⊥))
+else-done = done-exactly
+
+-- A refused writing changes no byte.
+pub refused-changes-nothing : (s : Sheet) (place : List ℕ) → (writtenOf s place ≡ Done → ⊥) → placeOf s place ≡ place
+refused-changes-nothing = refused-unchanged
+
+-- Written sheets fill the first 28 bytes only.
+pub past-stays : (s : Sheet) (place : List ℕ) → drop size (placeOf s place) ≡ drop size place
+past-stays = past-unchanged
+
+-- One result of reading, and one result and one later content of writing.
+pub read-unique : (bytes : List ℕ) (r t : SheetRead) → r ≡ readOf bytes → t ≡ readOf bytes → r ≡ t
+read-unique bytes = one-answer
+
+pub write-unique : (s : Sheet) (place : List ℕ) (r t : SheetWritten) → r ≡ writtenOf s place → t ≡ writtenOf s place → r ≡ t
+write-unique s place = one-answer
+
+pub place-unique : (s : Sheet) (place : List ℕ) (now later : List ℕ) → now ≡ placeOf s place → later ≡ placeOf s place → now ≡ later
+place-unique s place = one-answer
+
+-- Case S: its bytes are read as its sheet, and written from it.
+pub case-s-read : readOf bytesS ≡ Good sheetS
+case-s-read = s-read
+
+pub case-s-written : bytesOf (figuresOf sheetS) ≡ bytesS
+case-s-written = s-written
