@@ -1,0 +1,2 @@
+// The handles by which the tests call the rooms: numbers and slices, for a program in another language.
+mod sheets;

@@ -1,0 +1,189 @@
+//! Depth, below the design level; all figures in cm.
+
+use super::rounded_up;
+use super::sheet::Sheet;
+
+/// What the depth is worked from.
+#[derive(Clone, Copy, Debug)]
+pub struct Inputs {
+    pub draft: i64,
+    pub length: i64,
+    pub speed: i64,
+    pub natural_bed: i64,
+    pub level: i64,
+    pub soil: i64,
+    pub z2: i64,
+    pub silting: i64,
+    pub interval: i64,
+    pub lanes: i64,
+}
+
+impl Inputs {
+    pub fn of(sheet: &Sheet, level: i64, lanes: i64) -> Inputs {
+        Inputs {
+            draft: sheet.draft(),
+            length: sheet.length(),
+            speed: sheet.speed(),
+            natural_bed: sheet.natural_bed(),
+            level,
+            soil: sheet.soil(),
+            z2: sheet.wave_allowance(),
+            silting: sheet.silting(),
+            interval: sheet.interval(),
+            lanes,
+        }
+    }
+}
+
+#[derive(Clone, Copy, Debug, PartialEq, Eq)]
+pub enum Column {
+    A,
+    B,
+    C,
+}
+
+const NONE: i64 = -1;
+
+/// The procedure's squat table, speeds 2 to 12: A lone, A passing, B lone, B passing,
+/// C lone, C passing.
+const SQUAT: [[i64; 11]; 6] = [
+    [5, 10, 10, 15, 20, 25, 35, 45, 60, 80, 100],
+    [10, 20, 20, 25, 35, 45, 65, 80, 110, 145, 180],
+    [10, 10, 15, 20, 25, 35, 50, 65, 90, 120, NONE],
+    [10, 20, 25, 35, 45, 65, 90, 120, 160, 215, NONE],
+    [10, 15, 20, 25, 35, 45, 60, 80, 100, NONE, NONE],
+    [20, 25, 35, 40, 65, 80, 110, 145, 200, NONE, NONE],
+];
+
+/// "0–5 for 25, 33, 50, 100, 200, 300 hundredths of a year."
+const INTERVAL: [i64; 6] = [25, 33, 50, 100, 200, 300];
+
+/// "Natural depth N = bed + level, or 0 if negative."
+pub fn natural_depth(inputs: &Inputs) -> i64 {
+    (inputs.natural_bed + inputs.level).max(0)
+}
+
+/// "z0 = length / 400", rounded up by itself.
+pub fn z0(inputs: &Inputs) -> i64 {
+    rounded_up(inputs.length, 400)
+}
+
+/// "z1 = draft × (4 + soil grade) / 100", rounded up by itself.
+pub fn z1(inputs: &Inputs) -> i64 {
+    rounded_up(inputs.draft * (4 + inputs.soil), 100)
+}
+
+/// "One lane reads lone, two read passing." None where the table has no entry.
+pub fn z3(inputs: &Inputs, column: Column) -> Option<i64> {
+    let row = match (column, inputs.lanes) {
+        (Column::A, 1) => SQUAT[0],
+        (Column::A, _) => SQUAT[1],
+        (Column::B, 1) => SQUAT[2],
+        (Column::B, _) => SQUAT[3],
+        (Column::C, 1) => SQUAT[4],
+        (Column::C, _) => SQUAT[5],
+    };
+    let entry = row[(inputs.speed - 2) as usize];
+    if entry == NONE {
+        None
+    } else {
+        Some(entry)
+    }
+}
+
+/// "For a cut d, let h = d - N, or 0 if negative: column A when 10h ≤ 5d, B when 10h ≤ 8d,
+/// else C."
+pub fn column_of(inputs: &Inputs, d: i64) -> Column {
+    let h = (d - natural_depth(inputs)).max(0);
+    if 10 * h <= 5 * d {
+        Column::A
+    } else if 10 * h <= 8 * d {
+        Column::B
+    } else {
+        Column::C
+    }
+}
+
+/// "Sailing depth s = draft + z0 + z1 + z2 + z3."
+pub fn sailing_depth(inputs: &Inputs, column: Column) -> Option<i64> {
+    let squat = z3(inputs, column)?;
+    Some(inputs.draft + z0(inputs) + z1(inputs) + inputs.z2 + squat)
+}
+
+/// "Silt z4 = P × interval × (s - N) / 100,000 rounded up, 0 when s ≤ N."
+pub fn z4(inputs: &Inputs, s: i64) -> i64 {
+    let n = natural_depth(inputs);
+    if s <= n {
+        return 0;
+    }
+    let interval = INTERVAL[inputs.interval as usize];
+    rounded_up(inputs.silting * interval * (s - n), 100_000)
+}
+
+/// "An entry at its column, z4 at most 120, and d at least s + z4."
+pub fn meets(inputs: &Inputs, d: i64) -> bool {
+    match sailing_depth(inputs, column_of(inputs, d)) {
+        None => false,
+        Some(s) => z4(inputs, s) <= 120 && d >= s + z4(inputs, s),
+    }
+}
+
+/// "The cut is the least d from 1 to 3,000" that meets: each is tried.
+pub fn cut(inputs: &Inputs) -> Option<i64> {
+    (1..=3_000).find(|&d| meets(inputs, d))
+}
+
+/// One column tried on the worksheet.
+#[derive(Clone, Copy, Debug, PartialEq, Eq)]
+pub struct Try {
+    pub column: Column,
+    pub z3: i64,
+    pub s: i64,
+    pub z4: i64,
+    pub figure: i64,
+    pub falls_in: Column,
+}
+
+/// The tries in order, and the cut of the last if the worksheet ends in one.
+#[derive(Clone, Debug, PartialEq, Eq)]
+pub struct Worksheet {
+    pub tries: Vec<Try>,
+    pub cut: Option<i64>,
+}
+
+impl Worksheet {
+    /// "The number of columns tried is reported, 1 to 3."
+    pub fn columns_tried(&self) -> i64 {
+        self.tries.len() as i64
+    }
+}
+
+fn try_column(inputs: &Inputs, column: Column) -> Option<Try> {
+    let s = sailing_depth(inputs, column)?;
+    let silt = z4(inputs, s);
+    Some(Try {
+        column,
+        z3: z3(inputs, column)?,
+        s,
+        z4: silt,
+        figure: s + silt,
+        falls_in: column_of(inputs, s + silt),
+    })
+}
+
+/// "The worksheet begins in column A and moves to the column its figure falls in until it
+/// stays." Without an entry there is no figure to move by, and it ends with no cut.
+pub fn worksheet(inputs: &Inputs) -> Worksheet {
+    let mut tries = Vec::new();
+    let mut column = Column::A;
+    while let Some(tried) = try_column(inputs, column) {
+        tries.push(tried);
+        if tried.falls_in == column {
+            let allowed = tried.z4 <= 120 && tried.figure <= 3_000;
+            let cut = if allowed { Some(tried.figure) } else { None };
+            return Worksheet { tries, cut };
+        }
+        column = tried.falls_in;
+    }
+    Worksheet { tries, cut: None }
+}

@@ -1,0 +1,364 @@
+//! The definition's figures to hold it to, every refusal number, and its own claims.
+
+use crate::second::depth::{self, Inputs};
+use crate::second::design::{design, design_at, plan, Answer};
+use crate::second::gauge::{self, AddAnswer};
+use crate::second::random::{self, Random};
+use crate::second::sheet::{self, Sheet, FIELDS};
+use crate::second::{class, print, width};
+use std::fmt::Debug;
+
+/// S, field by field.
+const S: [i64; FIELDS] = [
+    40_000, 1_000, 20_000, 3_000, 8, 500, 0, 30, 0, 3, 1, 20_000, 2_400, 0, 0, 20, 10, 10, 150, 1,
+    0, 0, 0, 0, 0, 0, 1, 500,
+];
+
+const S_PRINTED: &str = "L 0 0 0\n1 0 0 0 1 1170 1170 1170 14400 0 2 0 0 1\nR 1 1 0\n";
+
+const RANDOM_SHEETS: usize = 20_000;
+
+struct Tally {
+    right: u32,
+    wrong: u32,
+}
+
+impl Tally {
+    fn check<T: Debug + PartialEq>(&mut self, what: &str, got: T, wanted: T) {
+        if got == wanted {
+            self.right += 1;
+            println!("right: {what}: {got:?}");
+        } else {
+            self.wrong += 1;
+            println!("wrong: {what}: {got:?}, not {wanted:?}");
+        }
+    }
+}
+
+/// S with some fields changed: (number, figure).
+fn s_with(changes: &[(usize, i64)]) -> [i64; FIELDS] {
+    let mut figures = S;
+    for &(number, figure) in changes {
+        figures[number - 1] = figure;
+    }
+    figures
+}
+
+fn answer(changes: &[(usize, i64)]) -> Answer {
+    design(&sheet::pack(&s_with(changes)), &gauge::empty())
+}
+
+fn code_and_field(bytes: &[u8], table: &[u32]) -> (i64, i64) {
+    let answer = design(bytes, table);
+    let refused = Answer {
+        code: answer.code,
+        field: answer.field,
+        ..Answer::default()
+    };
+    assert!(answer.code == 0 || answer == refused, "all 0 when refused");
+    (answer.code, answer.field)
+}
+
+fn table_of(counts: &[(i32, u32)]) -> Vec<u32> {
+    let mut table = gauge::empty();
+    for &(level, count) in counts {
+        for _ in 0..count {
+            assert_eq!(gauge::add(&mut table, level), AddAnswer::Added);
+        }
+    }
+    table
+}
+
+/// "S: as printed." to "*999: refusal 7."
+fn starred(tally: &mut Tally) {
+    let s = sheet::pack(&S);
+    let printed = print::text(None, &s);
+    tally.check("S, printed", printed.as_str(), S_PRINTED);
+    let two = answer(&[(11, 2)]);
+    tally.check("S, two lanes: cut", two.cut, 1_210);
+    tally.check("S, two lanes: width", two.width, 30_600);
+    let silted = answer(&[(9, 100)]);
+    tally.check("S, P 100: s", silted.s, 1_170);
+    tally.check("S, P 100: cut", silted.cut, 1_237);
+    tally.check("S, bed 0: cut", answer(&[(6, 0)]).cut, 1_180);
+    let one_column = answer(&[(8, 31), (6, 578)]);
+    tally.check("S, z2 31, bed 578: cut", one_column.cut, 1_156);
+    tally.check("S, z2 31, bed 578: columns", one_column.columns_tried, 1);
+    let bed_577 = answer(&[(8, 31), (6, 577)]);
+    tally.check("S, z2 31, bed 577: cut", bed_577.cut, 1_171);
+    let fast = |bed| answer(&[(5, 12), (6, bed)]);
+    tally.check("S, speed 12, bed 610: cut", fast(610).cut, 1_220);
+    tally.check("S, speed 12, bed 600: code", fast(600).code, 9);
+    let bend = |radius| answer(&[(25, 30), (26, radius)]);
+    let widening = |radius| (bend(radius).code, bend(radius).widening);
+    tally.check("S, turn 30, radius 1,500", widening(1_500), (0, 1_915));
+    tally.check("S, turn 30, radius 2,000", widening(2_000), (0, 0));
+    tally.check("S, turn 30, radius 999", widening(999), (7, 0));
+}
+
+/// "S, lanes 0", and the levels of two records.
+fn lanes_and_levels(tally: &mut Tally) {
+    let by_traffic = |ships| answer(&[(11, 0), (13, ships)]).lanes;
+    tally.check("S, lanes 0, ships 1,777", by_traffic(1_777), 1);
+    tally.check("S, lanes 0, ships 1,778", by_traffic(1_778), 2);
+    let equal = answer(&[(11, 0), (12, 44_448), (13, 800)]);
+    tally.check("S, lanes 0, 44,448 m, ships 800", equal.lanes, 2);
+    let level = |low, high| gauge::design_level(&table_of(&[(0, low), (60, high)]));
+    tally.check("262 of 0, 26,018 of 60", level(262, 26_018), Ok(60));
+    tally.check("263 of 0, 26,017 of 60", level(263, 26_017), Ok(0));
+    let record = table_of(&[(0, 262), (60, 26_018)]);
+    let off_record = sheet::pack(&s_with(&[(27, 0), (28, 0)]));
+    let given = sheet::pack(&s_with(&[(28, 560)]));
+    let same = design(&off_record, &record) == design(&given, &[]);
+    tally.check("a level off the record is as one given", same, true);
+}
+
+/// Numbers 1, 2, 3.
+fn bad_bytes(tally: &mut Tally) {
+    let s = sheet::pack(&S);
+    let code = |bytes: &[u8]| code_and_field(bytes, &gauge::empty());
+    let longer = [&s[..], &[0]].concat();
+    let short = (code(&[]), code(&s[..27]), code(&longer));
+    tally.check("1: 0, 27, 29 bytes", short, ((1, 0), (1, 0), (1, 0)));
+    let spare = (0..12).all(|place| {
+        let mut bytes = sheet::pack(&s_with(&[(1, 0)]));
+        bytes[27 - place / 8] |= 1 << (place % 8);
+        code(&bytes) == (2, 0)
+    });
+    tally.check("2: each spare bit, before 3", spare, true);
+    for number in 1..=FIELDS {
+        for figure in random::one_past(number) {
+            // Field 28 last: the first bad field's number is given.
+            let bytes = sheet::pack(&s_with(&[(28, 2_001), (number, figure)]));
+            let what = format!("3: {} {figure}", sheet::TABLE[number - 1].name);
+            tally.check(&what, code(&bytes), (3, number as i64));
+        }
+    }
+    let changed = |changes: &[(usize, i64)]| code(&sheet::pack(&s_with(changes)));
+    tally.check("3: turn alone", changed(&[(25, 1)]), (3, 26));
+    tally.check("3: radius alone", changed(&[(26, 1)]), (3, 26));
+    tally.check("3: bad turn, no radius", changed(&[(25, 181)]), (3, 25));
+    tally.check("3: record and figure", changed(&[(27, 0)]), (3, 28));
+}
+
+/// Numbers 4, 5, 6, for source 0 only.
+fn bad_tables(tally: &mut Tally) {
+    let off_record = sheet::pack(&s_with(&[(27, 0), (28, 0)]));
+    let code = |table: &[u32]| code_and_field(&off_record, table);
+    let mut over = gauge::empty();
+    over[0] = gauge::FULL + 1;
+    let given = code_and_field(&sheet::pack(&S), &over);
+    tally.check("4: not asked of a given level", given, (0, 0));
+    tally.check("4: 2,000 slots", code(&[0; 2_000]), (4, 0));
+    tally.check("4: 2,002 slots", code(&[0; 2_002]), (4, 0));
+    tally.check("4: a slot over 1,000,000", code(&over), (4, 0));
+    over[0] = gauge::FULL;
+    tally.check("4: a slot at 1,000,000", code(&over), (0, 0));
+    tally.check("5: none", code(&gauge::empty()), (5, 0));
+    tally.check("5: 26,279", code(&table_of(&[(0, 26_279)])), (5, 0));
+    tally.check("5: 26,280", code(&table_of(&[(0, 26_280)])), (0, 0));
+    // Of 30,000 readings, 300 are below 1, 600 below 2, 900 below 3, and 901 below D.
+    let level = |d| {
+        let low = [(0, 300), (1, 300), (2, 300), (3, 1)];
+        gauge::design_level(&table_of(&[&low[..], &[(d, 29_099)]].concat()))
+    };
+    for (row, ends) in [(0, [4, 35]), (1, [36, 70]), (2, [71, 105]), (3, [106, 140])] {
+        let what = format!("D {} and {}", ends[0], ends[1]);
+        tally.check(&what, ends.map(level), [Ok(row), Ok(row)]);
+    }
+    tally.check("6: D 141", level(141), Err(6));
+}
+
+/// Numbers 7, 8, 9, and their order.
+fn bad_designs(tally: &mut Tally) {
+    let code = |changes: &[(usize, i64)]| {
+        let bytes = sheet::pack(&s_with(changes));
+        code_and_field(&bytes, &gauge::empty()).0
+    };
+    for (turn, lengths) in [
+        (24, 3),
+        (25, 5),
+        (34, 5),
+        (35, 8),
+        (54, 8),
+        (55, 10),
+        (180, 10),
+    ] {
+        let radius = 200 * lengths;
+        let tight = code(&[(25, turn), (26, radius - 1)]);
+        let enough = code(&[(25, turn), (26, radius)]);
+        let what = format!("7: turn {turn}, {lengths} lengths");
+        tally.check(&what, (tight, enough), (7, 0));
+    }
+    tally.check("8: wave 101", code(&[(14, 1), (19, 101)]), 8);
+    tally.check("8: cross 16", code(&[(14, 1), (17, 16), (19, 100)]), 8);
+    tally.check("8: neither", code(&[(14, 1), (17, 15), (19, 100)]), 0);
+    tally.check("9: no entry", code(&[(5, 12), (6, 600)]), 9);
+    let silt = |p| answer(&[(9, p), (10, 5), (6, 670)]);
+    let silted = (silt(82).cut, silt(82).code, silt(83).code);
+    tally.check("9: z4 over 120", silted, (1_275, 0, 9));
+    let deep = |z2| answer(&[(2, 2_500), (6, 3_000), (7, 3), (8, z2), (5, 9)]);
+    let deepest = (deep(230).cut, deep(231).code);
+    tally.check("9: over 3,000", deepest, (3_000, 9));
+    let all = [(25, 30), (26, 999), (14, 1), (5, 12), (6, 600)];
+    let orders = (code(&all), code(&all[2..]), code(&all[3..]));
+    tally.check("7 before 8 before 9", orders, (7, 8, 9));
+    let on_record = [(27, 0), (28, 0), (25, 30), (26, 999)];
+    tally.check("5 before 7", code(&on_record), 5);
+}
+
+/// Numbers 4, 10, 11 of adding; a refused addition changes no slot.
+fn adding(tally: &mut Tally) {
+    let refused = AddAnswer::Refused;
+    let mut table = gauge::empty();
+    table[500] = gauge::FULL;
+    table[501] = gauge::FULL + 1;
+    let before = table.clone();
+    tally.check("-9999", gauge::add(&mut table, -9_999), AddAnswer::Missing);
+    tally.check("10: -501", gauge::add(&mut table, -501), refused(10));
+    tally.check("10: 1,501", gauge::add(&mut table, 1_501), refused(10));
+    tally.check("11: at", gauge::add(&mut table, 0), refused(11));
+    tally.check("11: over", gauge::add(&mut table, 1), refused(11));
+    let wrong = gauge::add(&mut [0; 2_000], -9_999);
+    tally.check("4 before -9999", wrong, refused(4));
+    tally.check("no slot changed", table == before, true);
+    let ends = (gauge::add(&mut table, -500), gauge::add(&mut table, 1_500));
+    tally.check("-500, 1,500", ends, (AddAnswer::Added, AddAnswer::Added));
+    tally.check("their slots", (table[0], table[2_000]), (1, 1));
+}
+
+/// Number 12 of writing and planning.
+fn writing(tally: &mut Tally) {
+    let s = Sheet { figures: S };
+    let mut place = [7; 60];
+    let twelve = sheet::write(&s, &mut place[..27]);
+    tally.check("12: 27 bytes", twelve, Err(sheet::refusal(12)));
+    let bad = Sheet {
+        figures: s_with(&[(7, -1)]),
+    };
+    let twelve = sheet::write(&bad, &mut place[..27]);
+    tally.check("12 before 3", twelve, Err(sheet::refusal(12)));
+    let three = sheet::write(&bad, &mut place);
+    let field_7 = sheet::Refusal {
+        number: 3,
+        field: 7,
+    };
+    tally.check("3: soil -1, written", three, Err(field_7));
+    tally.check("no byte changed", place == [7; 60], true);
+    tally.check("S written", sheet::write(&s, &mut place), Ok(()));
+    let (first, later) = place.split_at(28);
+    tally.check("S read back", sheet::read(first), Ok(s));
+    tally.check("later bytes stay", later == [7; 32], true);
+}
+
+fn planning(tally: &mut Tally) {
+    let s = sheet::pack(&S);
+    let mut place = [7; 60];
+    tally.check("12: 51 bytes", plan(&s[..3], &mut place[..51]), 12);
+    tally.check("nothing written", place == [7; 60], true);
+    tally.check("S planned", plan(&s, &mut place), 0);
+    let words = place[..52].chunks(4).map(|four| {
+        let four = [four[0], four[1], four[2], four[3]];
+        i64::from(i32::from_be_bytes(four))
+    });
+    let numbers: Vec<i64> = words.collect();
+    let wanted = vec![0, 0, 0, 1, 1170, 1170, 1170, 14400, 0, 2, 0, 0, 1];
+    tally.check("thirteen numbers", numbers, wanted);
+    tally.check("later bytes stay", place[52..] == [7; 8], true);
+    let off_record = sheet::pack(&s_with(&[(27, 0), (28, 0)]));
+    tally.check("4: no table", plan(&off_record, &mut place), 4);
+    tally.check("its code", place[..8] == [0, 0, 0, 4, 0, 0, 0, 0], true);
+    tally.check("1: planned", plan(&s[..3], &mut place), 1);
+}
+
+/// The printing program's other rules.
+fn printing(tally: &mut Tally) {
+    let empty = print::text(None, &[]);
+    tally.check("no input", empty.as_str(), "L 0 0 0\nR 0 0 5\n");
+    let levels = random::levels_bin(&[0, -9_999, 1_501, -500]);
+    let short = print::text(Some(&levels[..7]), &sheet::pack(&S)[..27]);
+    let wanted = "L 1 1 2\n1 1 0 0 0 0 0 0 0 0 0 0 0 0\nR 1 0 5\n";
+    tally.check("odd byte, short sheet", short.as_str(), wanted);
+    // The first is refused (9), so only the others' ships count.
+    let refused = s_with(&[(1, 600_000), (5, 12), (6, 0)]);
+    let route = [refused, s_with(&[(1, 5_000)]), s_with(&[(1, 20_000)])];
+    let bytes: Vec<u8> = route.iter().flat_map(sheet::pack).collect();
+    let text = print::text(None, &bytes);
+    tally.check("route class", text.lines().last(), Some("R 3 2 1"));
+}
+
+/// Each class limit.
+fn classes(tally: &mut Tally) {
+    let ship = [40_000, 39_999, 20_000, 19_999, 10_000, 9_999, 5_000, 4_999];
+    let steps = [0, 1, 1, 2, 2, 3, 3, 4];
+    tally.check("ship classes", ship.map(class::ship_class), steps);
+    let depth = [1_400, 1_399, 1_100, 1_099, 900, 899, 800, 799];
+    tally.check("depth classes", depth.map(class::depth_class), steps);
+    let one = [11_000, 10_999, 9_000, 8_999, 7_000, 6_999, 5_000, 4_999];
+    let one = one.map(|width| class::width_class(width, 1));
+    tally.check("width classes, one lane", one, steps);
+    let two = [
+        24_000, 23_999, 20_000, 19_999, 16_000, 15_999, 12_000, 11_999,
+    ];
+    let two = two.map(|width| class::width_class(width, 2));
+    tally.check("width classes, two lanes", two, steps);
+}
+
+/// The worksheet gives the tried cut, at the s of the cut's column, in 1 to 3 columns.
+fn worksheet_agrees(figures: &[i64; FIELDS], record: i64) -> bool {
+    let sheet = Sheet { figures: *figures };
+    let level = sheet.given_level().unwrap_or(record);
+    let inputs = Inputs::of(&sheet, level, width::lanes(&sheet));
+    let worksheet = depth::worksheet(&inputs);
+    let cut = depth::cut(&inputs);
+    let s = cut.and_then(|d| depth::sailing_depth(&inputs, depth::column_of(&inputs, d)));
+    let last_s = worksheet.tries.last().map(|last| last.s);
+    worksheet.cut == cut
+        && (cut.is_none() || last_s == s)
+        && (1..=3).contains(&worksheet.columns_tried())
+}
+
+/// The definition's own claims, over random sheets.
+fn random_sheets(tally: &mut Tally) {
+    let mut rng = Random::new(1);
+    let (mut valid, mut back, mut agree) = (0, 0, 0);
+    let mut codes = [0; 10];
+    let mut columns = [0; 4];
+    for _ in 0..RANDOM_SHEETS {
+        let figures = random::valid_sheet(&mut rng);
+        let sheet = Sheet { figures };
+        let level = rng.between(-500, 1_500);
+        let answer = design_at(&sheet::pack(&figures), Ok(level as i32));
+        valid += usize::from(sheet::first_bad(&sheet).is_none());
+        back += usize::from(sheet::read(&sheet::pack(&figures)) == Ok(sheet));
+        agree += usize::from(worksheet_agrees(&figures, level));
+        codes[answer.code as usize] += 1;
+        columns[answer.columns_tried as usize] += 1;
+    }
+    tally.check("random sheets valid", valid, RANDOM_SHEETS);
+    tally.check("random sheets read back", back, RANDOM_SHEETS);
+    tally.check("worksheet's cut and s as tried", agree, RANDOM_SHEETS);
+    println!("codes {codes:?}, columns tried {columns:?}");
+    let met = [0, 7, 8, 9].iter().all(|&code| codes[code] > 0);
+    tally.check("0, 7, 8, 9 met", met, true);
+    let met = columns.iter().all(|&count| count > 0);
+    tally.check("1, 2, 3 columns met", met, true);
+}
+
+/// Prints a line for each check, and says whether all are right.
+pub fn all_right() -> bool {
+    let mut tally = Tally { right: 0, wrong: 0 };
+    starred(&mut tally);
+    lanes_and_levels(&mut tally);
+    bad_bytes(&mut tally);
+    bad_tables(&mut tally);
+    bad_designs(&mut tally);
+    adding(&mut tally);
+    writing(&mut tally);
+    planning(&mut tally);
+    printing(&mut tally);
+    classes(&mut tally);
+    random_sheets(&mut tally);
+    println!("figures: {} right, {} wrong", tally.right, tally.wrong);
+    tally.wrong == 0
+}
