@@ -1,0 +1,21 @@
+//! Runs the proved rooms beside the second program on many inputs, and stops at the first difference.
+//! `compare NAME` runs one comparison; a comparison that differs, or runs too few cases, ends with status 1.
+
+#[path = "../second/second.rs"]
+mod second;
+
+mod handles;
+mod report;
+mod sheets;
+
+fn main() {
+    let name = std::env::args().nth(1).unwrap_or_default();
+    match name.as_str() {
+        "reading-sheets" => sheets::reading(),
+        "writing-sheets" => sheets::writing(),
+        _ => {
+            eprintln!("compare: no comparison is called '{name}'");
+            std::process::exit(2);
+        }
+    }
+}
