@@ -4,3 +4,6 @@ pub mod Walks
 pub mod Designing
 pub mod Levels
 pub mod Additions
+pub mod Meaning
+pub mod Refusals
+pub mod Files
