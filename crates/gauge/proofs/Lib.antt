@@ -6,4 +6,6 @@ pub mod Levels
 pub mod Additions
 pub mod Meaning
 pub mod Refusals
+pub mod OneReading
 pub mod Files
+pub mod Promises
