@@ -2,5 +2,5 @@
 pub mod Table
 pub mod Adding
 pub mod Frequency
-pub mod DesignLevel
+pub mod Designing
 pub mod Walks
