@@ -1,3 +1,4 @@
+pub mod Never
 pub mod Sums
 pub mod Frequencies
 pub mod Walks
