@@ -2,11 +2,12 @@ pub mod Never
 pub mod Sums
 pub mod Frequencies
 pub mod Walks
-pub mod Designing
 pub mod Levels
-pub mod Additions
+pub mod Machine
+pub mod Designing
 pub mod Meaning
-pub mod Refusals
+pub mod Additions
 pub mod OneReading
 pub mod Files
+pub mod Refusals
 pub mod Promises
