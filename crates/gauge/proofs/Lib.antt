@@ -1,0 +1,13 @@
+pub mod Never
+pub mod Sums
+pub mod Frequencies
+pub mod Walks
+pub mod Levels
+pub mod Machine
+pub mod Designing
+pub mod Meaning
+pub mod Additions
+pub mod OneReading
+pub mod Files
+pub mod Refusals
+pub mod Promises
