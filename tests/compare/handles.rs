@@ -8,6 +8,8 @@ use std::process::{Child, ChildStdin, ChildStdout, Command, Stdio};
 pub enum Handle {
     ReadSheet,
     WriteSheet,
+    AddReadings,
+    DesignLevel,
 }
 
 pub struct Handles {

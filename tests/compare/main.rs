@@ -4,6 +4,7 @@
 #[path = "../second/second.rs"]
 mod second;
 
+mod gauges;
 mod handles;
 mod report;
 mod sheets;
@@ -13,6 +14,8 @@ fn main() {
     match name.as_str() {
         "reading-sheets" => sheets::reading(),
         "writing-sheets" => sheets::writing(),
+        "adding-readings" => gauges::adding(),
+        "design-levels" => gauges::levels(),
         _ => {
             eprintln!("compare: no comparison is called '{name}'");
             std::process::exit(2);

@@ -7,7 +7,7 @@
 
 typedef uint32_t call(const void *input, size_t count, void *place, size_t room);
 
-extern call trial_read, trial_write;
+extern call trial_read, trial_write, trial_add, trial_level;
 
 /* A handle, and the bytes of one element of its input and of its place. */
 struct handle {
@@ -18,6 +18,8 @@ struct handle {
 static const struct handle handles[] = {
     {trial_read, 1, 4},
     {trial_write, 4, 1},
+    {trial_add, 4, 4},
+    {trial_level, 4, 1},
 };
 
 static int take(void *to, size_t count) { return fread(to, 1, count, stdin) == count; }

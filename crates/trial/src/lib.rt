@@ -1,2 +1,3 @@
 // The handles by which the tests call the rooms: numbers and slices, for a program in another language.
+mod gauges;
 mod sheets;

@@ -1,0 +1,42 @@
+// The gauge's calls: a string of additions, and the design level.
+use gauge::Added;
+use gauge::LevelRead;
+
+fn answer_of(added: Added) -> u32 {
+    match added {
+        Added::Counted => 1,
+        Added::Missing => 2,
+        Added::WrongTable => 4,
+        Added::OutsideTable => 10,
+        Added::SlotFull => 11,
+    }
+}
+
+// The answers so far and one more, in one number.
+fn mixed(answers: u32, answer: u32) -> u32 {
+    (answers % 65521 * 31 + answer % 100) % 65521
+}
+
+#[no_mangle]
+pub extern "C" fn trial_add(readings: &[i32], table: &mut [u32]) -> u32 {
+    let mut answers: u32 = 0;
+    let mut i: usize = 0;
+    while i < readings.len() {
+        let added = gauge::add(&mut *table, readings[i]);
+        answers = mixed(answers, answer_of(added));
+        i += 1;
+    }
+    answers
+}
+
+// The level plus 500, or 10,000 and the refusal's number.
+#[no_mangle]
+pub extern "C" fn trial_level(table: &[u32], place: &mut [u8]) -> u32 {
+    let answer = gauge::design_level(table);
+    match answer {
+        LevelRead::Found(level) => level.0 as u32,
+        LevelRead::WrongTable => 10004,
+        LevelRead::TooFewReadings => 10005,
+        LevelRead::RangeTooWide => 10006,
+    }
+}
