@@ -1,0 +1,5 @@
+pub mod Columns
+pub mod Squat
+pub mod Widths
+pub mod Findings
+pub mod Tries

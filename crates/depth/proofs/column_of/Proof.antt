@@ -1,0 +1,49 @@
+use native.Mathlib.Omega.{arith}
+use Rattle.depth.proofs.Columns.{column-a, column-b, column-c}
+use borrow.Author.Needs.{needs}
+use Rattle.depth.proofs.column_of.Statement.{statement}
+use Rattle.depth.proofs.column_of.Tie as tie
+use Rattle.depth.proofs.column_of.Reads as reads
+use Rattle.depth.proofs.column_of.Lts as lts
+use Rattle.depth.proofs.past.Reads as past-reads
+
+cast-past : tie.Need-cast-past
+cast-past c = search needs
+
+past-requires : tie.Need-past-requires
+past-requires c κs = search needs
+
+mul-if1 : tie.Need-mul-if1
+mul-if1 c = search needs
+
+mul-if1-2 : tie.Need-mul-if1-2
+mul-if1-2 c = search needs
+
+mul-if2 : tie.Need-mul-if2
+mul-if2 c = search needs
+
+mul-if2-2 : tie.Need-mul-if2-2
+mul-if2-2 c = search needs
+
+returns : tie.Need-returns
+returns c = column-a _ _ (omega arith)
+
+returns-2 : tie.Need-returns-2
+returns-2 c = column-b _ _ (omega arith) (omega arith)
+
+returns-3 : tie.Need-returns-3
+returns-3 c = column-c _ _ (omega arith) (omega arith)
+
+pub column-of-spec : {M : Type 1} → statement M
+column-of-spec =
+    tie.close
+    (tie.spec
+    cast-past
+    past-requires
+    mul-if1
+    mul-if1-2
+    mul-if2
+    mul-if2-2
+    returns
+    returns-2
+    returns-3)

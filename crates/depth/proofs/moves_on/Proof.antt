@@ -1,0 +1,35 @@
+use mathlib.Core.Path.{_≡_}
+use Rattle.depth.specs.declared.Finding.the-variants.{Stays, Moves, NoCut as NoCut-here}
+use Rattle.depth.proofs.Findings.{moves-by}
+use borrow.Author.Needs.{needs}
+use Rattle.depth.proofs.moves_on.Statement.{statement}
+use Rattle.depth.proofs.moves_on.Tie as tie
+use Rattle.depth.proofs.moves_on.Reads as reads
+use Rattle.depth.proofs.moves_on.Lts as lts
+use Rattle.depth.proofs.finding_of.Reads as finding-of-reads
+
+finding-of-requires : tie.Need-finding-of-requires
+finding-of-requires c κs = search needs
+
+enum-told : tie.Need-enum-told
+enum-told c = search needs
+
+enum-told-2 : tie.Need-enum-told-2
+enum-told-2 c = search needs
+
+enum-told-3 : tie.Need-enum-told-3
+enum-told-3 c = search needs
+
+returns : tie.Need-returns
+returns c = moves-by (c .before .before .before .args .tried) Stays (cc)
+
+returns-2 : tie.Need-returns-2
+returns-2 c = moves-by (c .before .before .before .args .tried) Moves (cc)
+
+returns-3 : tie.Need-returns-3
+returns-3 c = moves-by (c .before .before .before .args .tried) NoCut-here (cc)
+
+pub moves-on-spec : {M : Type 1} → statement M
+moves-on-spec =
+    tie.close
+    (tie.spec finding-of-requires enum-told enum-told-2 enum-told-3 returns returns-2 returns-3)

@@ -1,0 +1,42 @@
+use Rattle.depth.proofs.Tries.{line-is}
+use borrow.Author.Needs.{needs}
+use Rattle.depth.proofs.try_column.Statement.{statement}
+use Rattle.depth.proofs.try_column.Tie as tie
+use Rattle.depth.proofs.try_column.Reads as reads
+use Rattle.depth.proofs.try_column.Lts as lts
+use Rattle.depth.proofs.column_of.Reads as column-of-reads
+use Rattle.depth.proofs.sailing_depth.Reads as sailing-depth-reads
+use Rattle.depth.proofs.silt_to.Reads as silt-to-reads
+use Rattle.depth.proofs.squat_of.Reads as squat-of-reads
+
+squat-of-requires : tie.Need-squat-of-requires
+squat-of-requires c κs = search needs
+
+sailing-depth-requires : tie.Need-sailing-depth-requires
+sailing-depth-requires c κs = search needs
+
+silt-to-requires : tie.Need-silt-to-requires
+silt-to-requires c κs = search needs
+
+add-figure : tie.Need-add-figure
+add-figure c = search needs
+
+column-of-requires : tie.Need-column-of-requires
+column-of-requires c κs = search needs
+
+returns : tie.Need-returns
+returns c =
+    let a = c .before .before .before .before .before .args in
+    line-is (a .stretch) (a .column) _ _ _ _ (c .before .before .before .squat-of .ensures) (c .before .before .sailing-depth .ensures .0)
+    (c .before .silt-to .ensures .0) (c .column-of .ensures)
+
+pub try-column-spec : {M : Type 1} → statement M
+try-column-spec =
+    tie.close
+    (tie.spec
+    squat-of-requires
+    sailing-depth-requires
+    silt-to-requires
+    add-figure
+    column-of-requires
+    returns)
