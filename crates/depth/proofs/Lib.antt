@@ -3,3 +3,8 @@ pub mod Squat
 pub mod Widths
 pub mod Findings
 pub mod Tries
+pub mod Walk
+pub mod Easier
+pub mod LeastCut
+pub mod Demand
+pub mod Starred

@@ -43,19 +43,73 @@ module _ (c l v : ℕ) where
       go true e = absurd (omega (arith, too-slow (ltb-true _ _ e)))
       go false e = ltb-false _ _ e
 
--- each entry is some squat, and at most "none"
-sized : ℕ → ℕ → ℕ → Bool
-sized c l v = (1 ≤ᵇ squatEntry c l v) && (squatEntry c l v ≤ᵇ none)
+-- a test of each entry: of the three columns, the two readings and the speeds to 12
+abbrev each-entry : (ℕ → ℕ → ℕ → Bool) → Bool
+each-entry test = every 3 (λ c. every 2 (λ l. every 13 (λ v. test c l v)))
 
-sized-test : T (every 3 (λ c. every 2 (λ l. every 13 (λ v. sized c l v))))
-unfolding squatEntry sized
-sized-test = tt
+at-entry : (test : ℕ → ℕ → ℕ → Bool) → T (each-entry test) → (c l v : ℕ) → c ≤ 2 → l ≤ 1 → v ≤ 12 → T (test c l v)
+at-entry test t c l v hc hl hv =
+    every-at 13 (λ x. test c l x)
+    (every-at 2 (λ k. every 13 (λ x. test c k x))
+    (every-at 3 (λ d. every 2 (λ k. every 13 (λ x. test d k x))) t c (omega arith)) l (omega arith)) v (omega arith)
+
+-- each entry is some squat, and at most "none"
+some : ℕ → ℕ → ℕ → Bool
+some c l v = 1 ≤ᵇ squatEntry c l v
+
+some-test : T (each-entry some)
+unfolding squatEntry some
+some-test = tt
+
+most : ℕ → ℕ → ℕ → Bool
+most c l v = squatEntry c l v ≤ᵇ none
+
+most-test : T (each-entry most)
+unfolding squatEntry most
+most-test = tt
+
+module _ (c l : ℕ) (hc : c ≤ 2) (hl : l ≤ 1) where
+  pub squat-some : (v : ℕ) → 1 ≤ squatEntry c l v
+  unfolding some
+  squat-some v = go (ltb 12 v) refl
+    where
+      go : (t : Bool) → ltb 12 v ≡ t → 1 ≤ squatEntry c l v
+      go true e = omega (arith, too-fast c l v (ltb-true _ _ e))
+      go false e = leb→le 1 (squatEntry c l v) (at-entry some some-test c l v hc hl (ltb-false _ _ e))
+
+  pub squat-most : (v : ℕ) → squatEntry c l v ≤ none
+  unfolding most
+  squat-most v = go (ltb 12 v) refl
+    where
+      go : (t : Bool) → ltb 12 v ≡ t → squatEntry c l v ≤ none
+      go true e = omega (arith, too-fast c l v (ltb-true _ _ e))
+      go false e = leb→le (squatEntry c l v) none (at-entry most most-test c l v hc hl (ltb-false _ _ e))
 
 -- nothing falls
 never-falls : ℕ → ℕ → ℕ → ℕ → ℕ → ℕ → Bool
-never-falls c c' l l' v v' =
+never-falls c l v c' l' v' =
     where-true (c ≤ᵇ c') (where-true (l ≤ᵇ l') (where-true (2 ≤ᵇ v) (where-true (v ≤ᵇ v') (squatEntry c l v ≤ᵇ squatEntry c' l' v'))))
 
-falls-test : T (every 3 (λ c. every 3 (λ c'. every 2 (λ l. every 2 (λ l'. every 13 (λ v. every 13 (λ v'. never-falls c c' l l' v v')))))))
+never-falls-test : T (each-entry (λ c l v. each-entry (never-falls c l v)))
 unfolding squatEntry never-falls
-falls-test = tt
+never-falls-test = tt
+
+module _ (c c' l l' v v' : ℕ) (hc : c ≤ c') (hc' : c' ≤ 2) (hl : l ≤ l') (hl' : l' ≤ 1) (hv : 2 ≤ v) (hv' : v ≤ v') where
+  rises-in-table : v' ≤ 12 → squatEntry c l v ≤ squatEntry c' l' v'
+  unfolding never-falls
+  rises-in-table h =
+      leb→le (squatEntry c l v) (squatEntry c' l' v')
+      (holds-there (v ≤ᵇ v') _
+      (holds-there (2 ≤ᵇ v) _
+      (holds-there (l ≤ᵇ l') _
+      (holds-there (c ≤ᵇ c') _
+      (at-entry (never-falls c l v)
+      (at-entry (λ d k x. each-entry (never-falls d k x)) never-falls-test c l v (omega arith) (omega arith) (omega arith)) c' l' v' hc' hl' h)
+      (le→leb c c' hc)) (le→leb l l' hl)) (le→leb 2 v hv)) (le→leb v v' hv'))
+
+  pub squat-rises : squatEntry c l v ≤ squatEntry c' l' v'
+  squat-rises = go (ltb 12 v') refl
+    where
+      go : (t : Bool) → ltb 12 v' ≡ t → squatEntry c l v ≤ squatEntry c' l' v'
+      go true e = omega (arith, squat-most c l (omega arith) (omega arith) v, too-fast c' l' v' (ltb-true _ _ e))
+      go false e = rises-in-table (ltb-false _ _ e)

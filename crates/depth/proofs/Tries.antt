@@ -12,9 +12,9 @@ use Rattle.depth.specs.declared.Column.{Column}
 use Rattle.depth.specs.declared.Column.the-variants.{A}
 use Rattle.depth.specs.declared.Try.{Try}
 use Rattle.depth.specs.declared.Worksheet.{Worksheet}
-use Rattle.depth.specs.Squat.{squatOf}
+use Rattle.depth.specs.Squat.{columnNumber, squatOf}
 use Rattle.depth.specs.Depth.{z3, z4, sailing, sailingWith, siltTo, columnOf, naturalOf}
-use Rattle.depth.specs.Worksheet.{worked, columnTry, movesOn, walk, tries, blankTry, worksheetOf, lastTry, figure}
+use Rattle.depth.specs.Worksheet.{worked, columnTry, movesOn, walk, tries, blankTry, worksheetOf, lastTry, Forward, figure}
 
 -- one line of the walk
 module _ (line : Column → Try) (c : Column) where
@@ -99,20 +99,28 @@ last-line (t ∷ (u ∷ [])) h k = refl
 last-line (t ∷ (u ∷ (v ∷ []))) h k = refl
 last-line (t ∷ (u ∷ (v ∷ (w ∷ l)))) h k = absurd (omega arith)
 
+-- a try in front of a walk: the last try is the walk's, and the tries go forward where the first of the walk is past it
+module _ (t : Try) (line : Column → Try) where
+  pub last-later : (often : ℕ) (c : Column) → lastTry (t ∷ walk line often c) ≡ lastTry (walk line often c)
+  unfolding walk
+  last-later zero c = refl
+  last-later (suc often) c = refl
+
+  pub forward-later : (often : ℕ) (c : Column) → columnNumber (t .column) < columnNumber (line c .column) → Forward (walk line often c)
+      → Forward (t ∷ walk line often c)
+  unfolding walk
+  forward-later zero c h f = (h, f)
+  forward-later (suc often) c h f = (h, f)
+
 -- what the line of every column has, the last try has
 last-has : (P : Try → Type 0) (line : Column → Try) → ((c : Column) → P (line c)) → (often : ℕ) (c : Column) → P (lastTry (walk line often c))
 unfolding walk
 last-has P line h zero c = h c
-last-has P line h (suc zero) c = go (movesOn (line c))
+last-has P line h (suc often) c = go (movesOn (line c)) (last-has P line h often (line c .«falls_in»))
   where
-    go : (b : Bool) → P (lastTry (line c ∷ (if b then walk line zero (line c .«falls_in») else [])))
-    go true = h (line c .«falls_in»)
-    go false = h c
-last-has P line h (suc (suc often)) c = go (movesOn (line c)) (last-has P line h (suc often) (line c .«falls_in»))
-  where
-    go : (b : Bool) → P (lastTry (walk line (suc often) (line c .«falls_in»)))
-        → P (lastTry (line c ∷ (if b then walk line (suc often) (line c .«falls_in») else [])))
-    go true r = r
+    go : (b : Bool) → P (lastTry (walk line often (line c .«falls_in»)))
+        → P (lastTry (line c ∷ (if b then walk line often (line c .«falls_in») else [])))
+    go true r = rw (last-later (line c) line often (line c .«falls_in»)) r
     go false r = h c
 
 module _ (q : Stretch) where

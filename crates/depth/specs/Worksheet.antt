@@ -1,4 +1,5 @@
 -- The worksheet (section 4.7): how the cut is found, column by column.
+use mathlib.Core.Path.{_≡_}
 use Prim.Native.Nat.{ℕ, zero, suc, _+_, _-_, _<_}
 use mathlib.Core.Bool.{Bool, true, false}
 use mathlib.Core.List.{List, [], _∷_, _++_}
@@ -92,6 +93,11 @@ answerOf t columns = answerBy (findingOf t) t columns
 -- the depth of a stretch: the worksheet's last try, and how many columns it tried
 unfoldable pub workDepth : Stretch → Depth
 workDepth q = answerOf (lastTry (tries q)) (length (tries q))
+
+-- a depth that counts the columns as the worksheet has them
+abbrev pub Counted : Stretch → Depth → Type 0
+Counted q (Cut f) = f .columns ≡ length (tries q)
+Counted q NoCut = Unit {0}
 
 -- tries that never move back: each is in a later column than the one before it
 abbrev pub Forward : List Try → Type 0
