@@ -9,20 +9,20 @@ use lib.Dec.{leb, ltb, eqb}
 use Rattle.laws.specs.Choice.{if_then_else_}
 use Rattle.depth.specs.declared.Try.{Try}
 use Rattle.depth.specs.declared.Finding.{Finding}
-use Rattle.depth.specs.declared.Finding.the-variants.{Stays, Moves, NoCut as NoCut-here}
+use Rattle.depth.specs.declared.Finding.the-variants.{Stays, Moves, Unusable}
 use Rattle.depth.specs.Squat.{none, columnNumber}
 use Rattle.depth.specs.Worksheet.{findingOf, isMove, movesOn, answerBy, answerOf}
 
 module _ (t : Try) where
-  pub no-entry : none ≤ t .squat → NoCut-here ≡ findingOf t
+  pub no-entry : none ≤ t .squat → Unusable ≡ findingOf t
   unfolding findingOf
   no-entry h = simp (le-leb _ _ h)
 
-  pub too-much-silt : t .squat < none → 120 < t .silt → NoCut-here ≡ findingOf t
+  pub too-much-silt : t .squat < none → 120 < t .silt → Unusable ≡ findingOf t
   unfolding findingOf
   too-much-silt e h = simp (lt-leb _ _ e, lt-ltb _ _ h)
 
-  pub too-deep : t .squat < none → t .silt ≤ 120 → 3000 < t .figure .0 → NoCut-here ≡ findingOf t
+  pub too-deep : t .squat < none → t .silt ≤ 120 → 3000 < t .figure .0 → Unusable ≡ findingOf t
   unfolding findingOf
   too-deep e s h = simp (lt-leb _ _ e, le-ltb _ _ s, lt-ltb _ _ h)
 
@@ -46,7 +46,7 @@ pub record Within (t : Try) : Type 0 where
 abbrev pub Says : Try → Finding → Type 0
 Says t Stays = Within t × (columnNumber (t .«falls_in») ≡ columnNumber (t .column))
 Says t Moves = Within t × (columnNumber (t .«falls_in») ≡ columnNumber (t .column) → ⊥)
-Says t NoCut-here = Within t → ⊥
+Says t Unusable = Within t → ⊥
 
 pub finding-says : (t : Try) → Says t (findingOf t)
 unfolding findingOf
@@ -56,7 +56,7 @@ finding-says t =
   where
     go : (a b d e : Bool) → leb none (t .squat) ≡ a → ltb 120 (t .silt) ≡ b → ltb 3000 (t .figure .0) ≡ d
         → eqb (columnNumber (t .«falls_in»)) (columnNumber (t .column)) ≡ e
-        → Says t (if a then NoCut-here else (if b then NoCut-here else (if d then NoCut-here else (if e then Stays else Moves))))
+        → Says t (if a then Unusable else (if b then Unusable else (if d then Unusable else (if e then Stays else Moves))))
     go true b d e ea eb ed ee = λ w. omega (arith, leb-true, w .entry)
     go false true d e ea eb ed ee = λ w. omega (arith, ltb-true, w .silt)
     go false false true e ea eb ed ee = λ w. omega (arith, ltb-true, w .to)

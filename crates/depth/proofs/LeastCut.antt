@@ -14,7 +14,7 @@ use Rattle.depth.specs.declared.Stretch.{Stretch}
 use Rattle.depth.specs.declared.Column.{Column}
 use Rattle.depth.specs.declared.Try.{Try}
 use Rattle.depth.specs.declared.Finding.{Finding}
-use Rattle.depth.specs.declared.Finding.the-variants.{Stays, Moves, NoCut as NoCut-here}
+use Rattle.depth.specs.declared.Finding.the-variants.{Stays, Moves, Unusable}
 use Rattle.depth.specs.declared.Depth.{Depth}
 use Rattle.depth.specs.declared.Depth.the-variants.{Cut, NoCut}
 use Rattle.depth.specs.Squat.{none, columnNumber, squatReading}
@@ -57,7 +57,7 @@ module _ (q : Stretch) where
         e,
       )
   line-tells c Moves s = (figure-least c (s .0 .entry) (s .0 .silt), refl, s .1)
-  line-tells c NoCut-here s = λ d v m.
+  line-tells c Unusable s = λ d v m.
       s (record { entry = v .entry; silt = v .silt; to = omega (arith, figure-under c d v, m .to) })
 
   line-column : (c : Column) → columnTry q c .column ≡ c
@@ -80,7 +80,7 @@ module _ (q : Stretch) where
   unfolding columnTry
   answer-as-defined t Stays columns e = record { cut = e .0; sailing-depth = ap (λ (u : Try). u .sailing .0) (e .1) }
   answer-as-defined t Moves columns e = absurd e
-  answer-as-defined t NoCut-here columns e = e
+  answer-as-defined t Unusable columns e = e
 
   pub work-as-defined : AsDefined q (workDepth q)
   unfolding workDepth answerOf
@@ -89,7 +89,7 @@ module _ (q : Stretch) where
   answer-counted : (t : Try) (f : Finding) → Counted q (answerBy f t (length (tries q)))
   answer-counted t Stays = refl
   answer-counted t Moves = tt
-  answer-counted t NoCut-here = tt
+  answer-counted t Unusable = tt
 
   pub work-counted : Counted q (workDepth q)
   unfolding workDepth answerOf
@@ -99,7 +99,7 @@ module _ (q : Stretch) where
   last-stays : (f : Finding) → Ends (ownColumn q) (Serves q) (Meets q) (columnTry q) (lastTry (tries q)) f → f ≡ Moves → ⊥
   last-stays Stays e p = let z : _≡_ {A = ℕ} 0 1 = cc in omega arith
   last-stays Moves e p = e
-  last-stays NoCut-here e p = let z : _≡_ {A = ℕ} 0 1 = cc in omega arith
+  last-stays Unusable e p = let z : _≡_ {A = ℕ} 0 1 = cc in omega arith
 
   pub last-never-moves : findingOf (lastTry (tries q)) ≡ Moves → ⊥
   last-never-moves = last-stays (findingOf (lastTry (tries q))) ends

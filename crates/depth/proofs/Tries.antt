@@ -10,11 +10,12 @@ use Rattle.laws.specs.Choice.{if_then_else_}
 use Rattle.depth.specs.declared.Stretch.{Stretch}
 use Rattle.depth.specs.declared.Column.{Column}
 use Rattle.depth.specs.declared.Column.the-variants.{A}
+use Rattle.depth.specs.declared.ReckonedDepth.{ReckonedDepth}
 use Rattle.depth.specs.declared.Try.{Try}
 use Rattle.depth.specs.declared.Worksheet.{Worksheet}
 use Rattle.depth.specs.Squat.{columnNumber, squatOf}
 use Rattle.depth.specs.Depth.{z3, z4, sailing, sailingWith, siltTo, columnOf, naturalOf}
-use Rattle.depth.specs.Worksheet.{worked, columnTry, movesOn, walk, tries, blankTry, worksheetOf, lastTry, Forward, figure}
+use Rattle.depth.specs.Worksheet.{reckoned, columnTry, movesOn, walk, tries, blankTry, worksheetOf, lastTry, Forward, figure}
 
 -- one line of the walk
 module _ (line : Column → Try) (c : Column) where
@@ -145,8 +146,8 @@ module _ (q : Stretch) where
         ∙ last-line (tries q) (tries-count q .0) (tries-count q .1)
 
 -- a line as the code has it
-pub line-is : (q : Stretch) (c : Column) (squat s silt : ℕ) (falls : Column) → squat ≡ squatOf (q .lanes) c (q .speed)
-    → s ≡ sailingWith q squat → silt ≡ siltTo q s → falls ≡ columnOf (naturalOf q) (s + silt)
-    → record { column = c; squat = squat; sailing = worked s; silt = silt; figure = worked (s + silt); «falls_in» = falls } ≡ columnTry q c
+pub line-is : (q : Stretch) (c : Column) (squat : ℕ) (s : ReckonedDepth) (silt : ℕ) (falls : Column) → squat ≡ squatOf (q .lanes) c (q .speed)
+    → s ≡ reckoned (sailingWith q squat) → silt ≡ siltTo q (s .0) → falls ≡ columnOf (naturalOf q) (s .0 + silt)
+    → record { column = c; squat = squat; sailing = s; silt = silt; figure = reckoned (s .0 + silt); «falls_in» = falls } ≡ columnTry q c
 unfolding columnTry figure z3 z4 sailing
 line-is q c squat s silt falls a b d e = rw (e, d, b, a) refl

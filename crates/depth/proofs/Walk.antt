@@ -12,7 +12,7 @@ use Rattle.depth.specs.declared.Column.{Column}
 use Rattle.depth.specs.declared.Column.the-variants.{A}
 use Rattle.depth.specs.declared.Try.{Try}
 use Rattle.depth.specs.declared.Finding.{Finding}
-use Rattle.depth.specs.declared.Finding.the-variants.{Stays, Moves, NoCut as NoCut-here}
+use Rattle.depth.specs.declared.Finding.the-variants.{Stays, Moves, Unusable}
 use Rattle.depth.specs.Squat.{columnNumber}
 use Rattle.depth.specs.Worksheet.{findingOf, isMove, movesOn, walk, lastTry, Forward}
 use Rattle.depth.proofs.Columns.{column-most}
@@ -23,13 +23,13 @@ module _ (own : ℕ → Column) (Fit : Column → ℕ → Type 0) (Good : ℕ �
   abbrev pub Tells : Column → Try → Finding → Type 0
   Tells c t Stays = Least (Fit c) (t .figure .0) × Good (t .figure .0) × (own (t .figure .0) ≡ c)
   Tells c t Moves = Least (Fit c) (t .figure .0) × (t .«falls_in» ≡ own (t .figure .0)) × (columnNumber (t .«falls_in») ≡ columnNumber c → ⊥)
-  Tells c t NoCut-here = (d : ℕ) → Fit c d → Good d → ⊥
+  Tells c t Unusable = (d : ℕ) → Fit c d → Good d → ⊥
 
   -- what the last try says, by its finding: it has the least good number, of its own column; or there is none; and it never moves
   abbrev pub Ends : Try → Finding → Type 0
   Ends t Stays = Least Good (t .figure .0) × (t ≡ line (own (t .figure .0)))
   Ends t Moves = ⊥
-  Ends t NoCut-here = (d : ℕ) → Good d → ⊥
+  Ends t Unusable = (d : ℕ) → Good d → ⊥
 
   module _ (own-up : (d e : ℕ) → d ≤ e → columnNumber (own d) ≤ columnNumber (own e))
       (down : (c c' : Column) (d : ℕ) → columnNumber c ≤ columnNumber c' → Fit c' d → Fit c d)
@@ -61,7 +61,7 @@ module _ (own : ℕ → Column) (Fit : Column → ℕ → Type 0) (Good : ℕ �
     stopped : (c : Column) → Begun c → (f : Finding) → isMove f ≡ false → Tells c (line c) f → Ends (line c) f
     stopped c b Stays e t = (record { holds = t .1; least = λ d g. under c _ d b (t .0) g }, rw (t .2))
     stopped c b Moves e t = let z : _≡_ {A = ℕ} 0 1 = cc in omega arith
-    stopped c b NoCut-here e t = λ d g. t d (down c (own d) d (b .good-past d g) (fits d g)) g
+    stopped c b Unusable e t = λ d g. t d (down c (own d) d (b .good-past d g) (fits d g)) g
 
     ended : (c : Column) → Begun c → movesOn (line c) ≡ false → Ends (line c) (findingOf (line c))
     unfolding movesOn
@@ -70,7 +70,7 @@ module _ (own : ℕ → Column) (Fit : Column → ℕ → Type 0) (Good : ℕ �
     moving : (c : Column) (f : Finding) → isMove f ≡ true → Tells c (line c) f → Tells c (line c) Moves
     moving c Stays e t = let z : _≡_ {A = ℕ} 0 1 = cc in absurd (omega arith)
     moving c Moves e t = t
-    moving c NoCut-here e t = let z : _≡_ {A = ℕ} 0 1 = cc in absurd (omega arith)
+    moving c Unusable e t = let z : _≡_ {A = ℕ} 0 1 = cc in absurd (omega arith)
 
     goes-on : (c : Column) → Begun c → movesOn (line c) ≡ true → Begun (line c .«falls_in») × (columnNumber c < columnNumber (line c .«falls_in»))
     unfolding movesOn

@@ -9,19 +9,19 @@ use Rattle.datum.specs.Datum.{below}
 use Rattle.depth.specs.declared.Stretch.{Stretch}
 use Rattle.depth.specs.declared.Column.{Column}
 use Rattle.depth.specs.declared.Column.the-variants.{A}
-use Rattle.depth.specs.declared.WorkedDepth.{WorkedDepth}
+use Rattle.depth.specs.declared.ReckonedDepth.{ReckonedDepth}
 use Rattle.depth.specs.declared.Try.{Try}
 use Rattle.depth.specs.declared.Finding.{Finding}
-use Rattle.depth.specs.declared.Finding.the-variants.{Stays, Moves, NoCut as NoCut-here}
+use Rattle.depth.specs.declared.Finding.the-variants.{Stays, Moves, Unusable}
 use Rattle.depth.specs.declared.Worksheet.{Worksheet}
 use Rattle.depth.specs.declared.Depth.{Depth}
 use Rattle.depth.specs.declared.Depth.the-variants.{Cut, NoCut}
 use Rattle.depth.specs.Squat.{none, columnNumber}
 use Rattle.depth.specs.Depth.{z3, z4, sailing, ownColumn}
 
--- a depth below the design level as it is worked
-abbrev pub worked : ℕ → WorkedDepth
-worked cm = record { 0 = cm }
+-- a depth below the design level as the worksheet reckons it
+abbrev pub reckoned : ℕ → ReckonedDepth
+reckoned cm = record { 0 = cm }
 
 -- a column's figure: s + z4
 unfoldable pub figure : Stretch → Column → ℕ
@@ -32,28 +32,28 @@ unfoldable pub columnTry : Stretch → Column → Try
 columnTry q c = record {
   column = c;
   squat = z3 q c;
-  sailing = worked (sailing q c);
+  sailing = reckoned (sailing q c);
   silt = z4 q c;
-  figure = worked (figure q c);
+  figure = reckoned (figure q c);
   «falls_in» = ownColumn q (figure q c);
 }
 
--- what a try comes to: no cut without an entry, with silt over 120 or a figure over 3,000; else it stays or moves
+-- what a try comes to: a column without an entry, with silt over 120 or a figure over 3,000 cannot be used; else it stays or moves
 unfoldable pub findingOf : Try → Finding
 findingOf t =
     if none ≤ᵇ t .squat
-    then NoCut-here
+    then Unusable
     else (if 120 <ᵇ t .silt
-    then NoCut-here
+    then Unusable
     else (if 3000 <ᵇ t .figure .0
-    then NoCut-here
+    then Unusable
     else (if columnNumber (t .«falls_in») =ᵇ columnNumber (t .column) then Stays else Moves)))
 
 -- the worksheet goes on from a try
 abbrev pub isMove : Finding → Bool
 isMove Stays = false
 isMove Moves = true
-isMove NoCut-here = false
+isMove Unusable = false
 
 unfoldable pub movesOn : Try → Bool
 movesOn t = isMove (findingOf t)
@@ -69,7 +69,7 @@ tries q = walk (columnTry q) 2 A
 
 -- a line that was not needed
 abbrev pub blankTry : Try
-blankTry = record { column = A; squat = 0; sailing = worked 0; silt = 0; figure = worked 0; «falls_in» = A }
+blankTry = record { column = A; squat = 0; sailing = reckoned 0; silt = 0; figure = reckoned 0; «falls_in» = A }
 
 -- the worksheet as data: three lines, of which the first are its tries
 unfoldable pub worksheetOf : Stretch → Worksheet
@@ -85,7 +85,7 @@ lastTry (t ∷ (u ∷ later)) = lastTry (u ∷ later)
 abbrev pub answerBy : Finding → Try → ℕ → Depth
 answerBy Stays t columns = Cut (record { cut = below (t .figure .0); sailing = below (t .sailing .0); columns = columns })
 answerBy Moves t columns = NoCut
-answerBy NoCut-here t columns = NoCut
+answerBy Unusable t columns = NoCut
 
 unfoldable pub answerOf : Try → ℕ → Depth
 answerOf t columns = answerBy (findingOf t) t columns

@@ -5,7 +5,7 @@ ghost use Rattle.laws.specs.Rounding.{up};
 ghost use Rattle.depth.specs.Interval.{intervalOf};
 ghost use Rattle.depth.specs.Squat.{columnNumber, squatReading, squatOf};
 ghost use Rattle.depth.specs.Depth.{columnOf, sailingWith, siltTo};
-ghost use Rattle.depth.specs.Worksheet.{columnTry, blankTry, findingOf, movesOn, answerOf, worksheetOf, workDepth};
+ghost use Rattle.depth.specs.Worksheet.{reckoned, columnTry, blankTry, findingOf, movesOn, answerOf, worksheetOf, workDepth};
 use datum::BelowLevel;
 use lanes::Lanes;
 
@@ -30,25 +30,25 @@ pub enum Column {
     C,
 }
 
-// A depth below the design level as it is worked, in cm: wide, since its limit is tested afterwards.
-pub struct WorkedDepth(pub u64);
+// A depth below the design level as the worksheet reckons it, in cm: wide, since its limit is tested afterwards.
+pub struct ReckonedDepth(pub u64);
 
 // A line of the worksheet: a column, its squat z3 (NONE for no entry, and then the rest means nothing), sailing depth s,
 // silt z4 and figure s + z4, in cm, and the column that the figure falls in.
 pub struct Try {
     pub column: Column,
     pub squat: u16,
-    pub sailing: WorkedDepth,
+    pub sailing: ReckonedDepth,
     pub silt: u64,
-    pub figure: WorkedDepth,
+    pub figure: ReckonedDepth,
     pub falls_in: Column,
 }
 
-// What a try comes to: the worksheet stays in its column, or moves to the one its figure falls in, or finds no cut there.
+// What a try comes to: the worksheet stays in its column, or moves to the one its figure falls in, or cannot use the column.
 pub enum Finding {
     Stays,
     Moves,
-    NoCut,
+    Unusable,
 }
 
 // The worksheet: its tries in order, `count` of them, then blank ones.
@@ -130,22 +130,23 @@ fn squat_of(lanes: Lanes, column: Column, speed: u8) -> u16
     row[speed as usize - 2]
 }
 
-// What a depth reaches past another, or 0 if it does not.
-fn past(depth: u64, other: u64) -> u64
-    ensures { λ r. ⌜ r ≡ depth - other ⌝ }
+// How far a depth lies below the natural one, or 0 if it does not.
+fn dug_to(depth: ReckonedDepth, natural: BelowLevel) -> u64
+    ensures { λ r. ⌜ r ≡ depth .0 - natural .0 ⌝ }
 {
-    if depth < other { 0 } else { depth - other }
+    let bed = natural.0 as u64;
+    if depth.0 < bed { 0 } else { depth.0 - bed }
 }
 
 // The column that a cut falls in: A while at most half of it is dug, B while at most eight tenths.
-fn column_of(natural: BelowLevel, cut: u64) -> Column
-    requires { ⌜ cut < 2 ^ 60 ⌝ }
-    ensures { λ r. ⌜ r ≡ columnOf (natural .0) cut ⌝ }
+fn column_of(natural: BelowLevel, cut: ReckonedDepth) -> Column
+    requires { ⌜ cut .0 < 2 ^ 60 ⌝ }
+    ensures { λ r. ⌜ r ≡ columnOf (natural .0) (cut .0) ⌝ }
 {
-    let dug = past(cut, natural.0 as u64);
-    if 10 * dug <= 5 * cut {
+    let dug = dug_to(cut, natural);
+    if 10 * dug <= 5 * cut.0 {
         Column::A
-    } else if 10 * dug <= 8 * cut {
+    } else if 10 * dug <= 8 * cut.0 {
         Column::B
     } else {
         Column::C
@@ -167,23 +168,22 @@ fn z1(draft: u16, soil: u8) -> u64
 }
 
 // The sailing depth at a squat.
-fn sailing_depth(stretch: Stretch, squat: u16) -> u64
-    ensures { λ r. ⌜ (r ≡ sailingWith stretch squat) × (r < 2 ^ 19) ⌝ }
+fn sailing_depth(stretch: Stretch, squat: u16) -> ReckonedDepth
+    ensures { λ r. ⌜ (r ≡ reckoned (sailingWith stretch squat)) × (r .0 < 2 ^ 19) ⌝ }
 {
     let draft = stretch.draft;
-    draft as u64
-        + z0(stretch.length)
-        + z1(draft, stretch.soil)
-        + stretch.wave_allowance as u64
-        + squat as u64
+    let list = z0(stretch.length);
+    let keel = z1(draft, stretch.soil);
+    ReckonedDepth(draft as u64 + list + keel + stretch.wave_allowance as u64 + squat as u64)
 }
 
 // The silt over what is dug down to a sailing depth, rounded up.
-fn silt_to(stretch: Stretch, sailing: u64) -> u64
-    requires { ⌜ sailing < 2 ^ 19 ⌝ }
-    ensures { λ r. ⌜ (r ≡ siltTo stretch sailing) × (r < 2 ^ 51) ⌝ }
+fn silt_to(stretch: Stretch, sailing: ReckonedDepth) -> u64
+    requires { ⌜ sailing .0 < 2 ^ 19 ⌝ }
+    ensures { λ r. ⌜ (r ≡ siltTo stretch (sailing .0)) × (r < 2 ^ 51) ⌝ }
 {
-    let dug = past(sailing, stretch.natural.0 as u64);
+    let natural = stretch.natural;
+    let dug = dug_to(sailing, natural);
     (stretch.silting as u64 * stretch.interval as u64 * dug + 99999) / 100000
 }
 
@@ -196,14 +196,14 @@ fn try_column(stretch: Stretch, column: Column) -> Try
     let squat = squat_of(lanes, column, stretch.speed);
     let sailing = sailing_depth(stretch, squat);
     let silt = silt_to(stretch, sailing);
-    let figure = sailing + silt;
+    let figure = ReckonedDepth(sailing.0 + silt);
     let falls_in = column_of(natural, figure);
     Try {
         column,
         squat,
-        sailing: WorkedDepth(sailing),
+        sailing,
         silt,
-        figure: WorkedDepth(figure),
+        figure,
         falls_in,
     }
 }
@@ -215,9 +215,9 @@ fn blank_try() -> Try
     Try {
         column: Column::A,
         squat: 0,
-        sailing: WorkedDepth(0),
+        sailing: ReckonedDepth(0),
         silt: 0,
-        figure: WorkedDepth(0),
+        figure: ReckonedDepth(0),
         falls_in: Column::A,
     }
 }
@@ -227,13 +227,13 @@ fn finding_of(tried: Try) -> Finding
     ensures { λ r. ⌜ r ≡ findingOf tried ⌝ }
 {
     if NONE <= tried.squat {
-        return Finding::NoCut;
+        return Finding::Unusable;
     }
     if 120 < tried.silt {
-        return Finding::NoCut;
+        return Finding::Unusable;
     }
     if 3000 < tried.figure.0 {
-        return Finding::NoCut;
+        return Finding::Unusable;
     }
     let falls_in = tried.falls_in;
     let column = tried.column;
@@ -251,7 +251,7 @@ fn moves_on(tried: Try) -> bool
     match finding_of(tried) {
         Finding::Stays => false,
         Finding::Moves => true,
-        Finding::NoCut => false,
+        Finding::Unusable => false,
     }
 }
 
@@ -295,7 +295,7 @@ fn answer_of(last: Try, columns: u8) -> Depth
             columns,
         }),
         Finding::Moves => Depth::NoCut,
-        Finding::NoCut => Depth::NoCut,
+        Finding::Unusable => Depth::NoCut,
     }
 }
 

@@ -1,6 +1,6 @@
 use mathlib.Core.Path.{_≡_}
 use native.Mathlib.Omega.{arith}
-use Rattle.depth.specs.declared.Finding.the-variants.{Stays, Moves, NoCut as NoCut-here}
+use Rattle.depth.specs.declared.Finding.the-variants.{Stays, Moves, Unusable}
 use Rattle.depth.proofs.Findings.{stays-within, answer-by}
 use borrow.Author.Needs.{needs}
 use Rattle.depth.proofs.answer_of.Statement.{statement}
@@ -34,7 +34,7 @@ returns-2 : tie.Need-returns-2
 returns-2 c = let a = c .before .before .before .args in answer-by (a .last) Moves (cc) (a .columns)
 
 returns-3 : tie.Need-returns-3
-returns-3 c = let a = c .before .before .before .args in answer-by (a .last) NoCut-here (cc) (a .columns)
+returns-3 c = let a = c .before .before .before .args in answer-by (a .last) Unusable (cc) (a .columns)
 
 pub answer-of-spec : {M : Type 1} → statement M
 answer-of-spec =

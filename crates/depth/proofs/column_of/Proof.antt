@@ -5,13 +5,10 @@ use Rattle.depth.proofs.column_of.Statement.{statement}
 use Rattle.depth.proofs.column_of.Tie as tie
 use Rattle.depth.proofs.column_of.Reads as reads
 use Rattle.depth.proofs.column_of.Lts as lts
-use Rattle.depth.proofs.past.Reads as past-reads
+use Rattle.depth.proofs.dug_to.Reads as dug-to-reads
 
-cast-past : tie.Need-cast-past
-cast-past c = search needs
-
-past-requires : tie.Need-past-requires
-past-requires c κs = search needs
+dug-to-requires : tie.Need-dug-to-requires
+dug-to-requires c κs = search needs
 
 mul-if1 : tie.Need-mul-if1
 mul-if1 c = search needs
@@ -37,13 +34,4 @@ returns-3 c = column-c _ _ (omega arith) (omega arith)
 pub column-of-spec : {M : Type 1} → statement M
 column-of-spec =
     tie.close
-    (tie.spec
-    cast-past
-    past-requires
-    mul-if1
-    mul-if1-2
-    mul-if2
-    mul-if2-2
-    returns
-    returns-2
-    returns-3)
+    (tie.spec dug-to-requires mul-if1 mul-if1-2 mul-if2 mul-if2-2 returns returns-2 returns-3)

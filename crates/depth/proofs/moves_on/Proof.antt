@@ -1,5 +1,5 @@
 use mathlib.Core.Path.{_≡_}
-use Rattle.depth.specs.declared.Finding.the-variants.{Stays, Moves, NoCut as NoCut-here}
+use Rattle.depth.specs.declared.Finding.the-variants.{Stays, Moves, Unusable}
 use Rattle.depth.proofs.Findings.{moves-by}
 use borrow.Author.Needs.{needs}
 use Rattle.depth.proofs.moves_on.Statement.{statement}
@@ -27,7 +27,7 @@ returns-2 : tie.Need-returns-2
 returns-2 c = moves-by (c .before .before .before .args .tried) Moves (cc)
 
 returns-3 : tie.Need-returns-3
-returns-3 c = moves-by (c .before .before .before .args .tried) NoCut-here (cc)
+returns-3 c = moves-by (c .before .before .before .args .tried) Unusable (cc)
 
 pub moves-on-spec : {M : Type 1} → statement M
 moves-on-spec =

@@ -1,5 +1,5 @@
+use Prim.Native.Nat.{_*_, _^_, _<_}
 use native.Mathlib.Omega.{arith}
-use mathlib.Core.Path.{_≡_}
 use Rattle.laws.proofs.Products.{product-lt}
 use Rattle.depth.specs.Depth.{siltTo}
 use Rattle.depth.proofs.Widths.{silt-product}
@@ -8,13 +8,10 @@ use Rattle.depth.proofs.silt_to.Statement.{statement}
 use Rattle.depth.proofs.silt_to.Tie as tie
 use Rattle.depth.proofs.silt_to.Reads as reads
 use Rattle.depth.proofs.silt_to.Lts as lts
-use Rattle.depth.proofs.past.Reads as past-reads
+use Rattle.depth.proofs.dug_to.Reads as dug-to-reads
 
-cast-past : tie.Need-cast-past
-cast-past c = search needs
-
-past-requires : tie.Need-past-requires
-past-requires c κs = search needs
+dug-to-requires : tie.Need-dug-to-requires
+dug-to-requires c κs = search needs
 
 cast-result : tie.Need-cast-result
 cast-result c = search needs
@@ -23,36 +20,31 @@ cast-result-2 : tie.Need-cast-result-2
 cast-result-2 c = search needs
 
 mul-result : tie.Need-mul-result
-mul-result c = record { fits = omega (arith, product-lt 16 16 {a = c .before .before .before .before .args .stretch .silting} {b = c .before .before .before .before .args .stretch .interval} (search needs) (search needs)) }
+mul-result c =
+    let a = c .before .before .before .before .args .stretch in
+    omega (arith, product-lt 16 16 {a = a .silting} {b = a .interval} (search needs) (search needs))
+
+-- the whole product is that of 51 bits
+product : (c : tie.After-struct-known2)
+    → c .before .before .before .before .args .stretch .silting * c .before .before .before .before .args .stretch .interval
+    * c .before .before .dug-to .result
+    < 2 ^ 51
+product c =
+    let a = c .before .before .before .before .args .stretch in
+    silt-product {silting = a .silting} {interval = a .interval} {dug = c .before .before .dug-to .result} (search needs) (search needs)
+    (omega arith)
 
 mul-result-2 : tie.Need-mul-result-2
-mul-result-2 c =
-    let a = c .before .before .before .before .args .stretch in
-    let p = silt-product {silting = a .silting} {interval = a .interval} {dug = c .before .before .past .result} (search needs) (search needs) (omega arith) in
-    record { fits = omega arith }
+mul-result-2 c = omega (arith, product c)
 
 add-result : tie.Need-add-result
-add-result c =
-    let a = c .before .before .before .before .args .stretch in
-    let p = silt-product {silting = a .silting} {interval = a .interval} {dug = c .before .before .past .result} (search needs) (search needs) (omega arith) in
-    record { fits = omega arith }
+add-result c = omega (arith, product c)
 
 returns : tie.Need-returns
 unfolding siltTo
-returns c =
-    let a = c .before .before .before .before .args .stretch in
-    let p = silt-product {silting = a .silting} {interval = a .interval} {dug = c .before .before .past .result} (search needs) (search needs) (omega arith) in
-    (rw (c .before .before .past .ensures), omega arith)
+returns c = (rw (c .before .before .dug-to .ensures), omega (arith, product c))
 
 pub silt-to-spec : {M : Type 1} → statement M
 silt-to-spec =
     tie.close
-    (tie.spec
-    cast-past
-    past-requires
-    cast-result
-    cast-result-2
-    mul-result
-    mul-result-2
-    add-result
-    returns)
+    (tie.spec dug-to-requires cast-result cast-result-2 mul-result mul-result-2 add-result returns)

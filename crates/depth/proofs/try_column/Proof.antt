@@ -18,17 +18,17 @@ sailing-depth-requires c κs = search needs
 silt-to-requires : tie.Need-silt-to-requires
 silt-to-requires c κs = search needs
 
-add-figure : tie.Need-add-figure
-add-figure c = search needs
+add-t10 : tie.Need-add-t10
+add-t10 c = search needs
 
 column-of-requires : tie.Need-column-of-requires
 column-of-requires c κs = search needs
 
 returns : tie.Need-returns
 returns c =
-    let a = c .before .before .before .before .before .args in
-    line-is (a .stretch) (a .column) _ _ _ _ (c .before .before .before .squat-of .ensures) (c .before .before .sailing-depth .ensures .0)
-    (c .before .silt-to .ensures .0) (c .column-of .ensures)
+    let a = c .before .before .before .before .before .before .args in
+    line-is (a .stretch) (a .column) _ _ _ _ (c .before .before .before .before .squat-of .ensures)
+    (c .before .before .before .sailing-depth .ensures .0) (c .before .before .silt-to .ensures .0) (c .column-of .ensures)
 
 pub try-column-spec : {M : Type 1} → statement M
 try-column-spec =
@@ -37,6 +37,6 @@ try-column-spec =
     squat-of-requires
     sailing-depth-requires
     silt-to-requires
-    add-figure
+    add-t10
     column-of-requires
     returns)
