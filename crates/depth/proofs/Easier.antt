@@ -10,8 +10,7 @@ use Rattle.depth.specs.declared.Column.{Column}
 use Rattle.depth.specs.Squat.{none, columnNumber, squatReading}
 use Rattle.depth.specs.Depth.{z1, z3, z4, naturalOf, sailing, sailingWith, siltTo, Serves}
 use Rattle.depth.specs.Harder.{Harder}
-use Rattle.depth.proofs.Columns.{column-most, reading-most}
-use Rattle.depth.proofs.Squat.{entry-from, squat-rises}
+use Rattle.depth.proofs.Squat.{entry-from, lanes-columns-speeds}
 
 -- a stretch is as hard as itself
 pub as-hard : (q : Stretch) → Harder q q
@@ -38,9 +37,7 @@ module _ (q q' : Stretch) (h : Harder q q') where
   module _ (from : 2 ≤ q .speed) where
     squat-harder : (c c' : Column) → columnNumber c ≤ columnNumber c' → z3 q c ≤ z3 q' c'
     unfolding z3
-    squat-harder c c' hc =
-        squat-rises (columnNumber c) (columnNumber c') (squatReading (q .lanes)) (squatReading (q' .lanes)) (q .speed) (q' .speed) hc
-        (column-most c') (h .lanes) (reading-most (q' .lanes)) from (h .speed)
+    squat-harder c c' hc = lanes-columns-speeds (q .lanes) (q' .lanes) c c' (q .speed) (q' .speed) (h .lanes) hc from (h .speed)
 
     pub serves-easier : (k : ℕ) → q .draft + q .«wave_allowance» + k ≤ q' .draft + q' .«wave_allowance» → (c c' : Column)
         → columnNumber c ≤ columnNumber c' → (d : ℕ) → Serves q' c' d → Serves q c (d - k)

@@ -1,7 +1,8 @@
 -- The worksheet's answer is the depth as it is defined: the least cut that meets the definition, or that none does. Nothing else is.
 -- Assumes nothing.
-use mathlib.Core.Path.{_≡_, refl, sym, ap, _∙_}
+use mathlib.Core.Path.{_≡_, refl, sym, ap, subst, _∙_}
 use mathlib.Core.Logic.{_↔_}
+use mathlib.Core.Bool.{false}
 use mathlib.Core.List.{List}
 use Prim.Native.Nat.{ℕ, _+_, _≤_, _<_}
 use native.Mathlib.Nat.{le-refl}
@@ -12,23 +13,32 @@ use Rattle.laws.proofs.Extremes.{least-only}
 use Rattle.datum.specs.Datum.{below}
 use Rattle.depth.specs.declared.Stretch.{Stretch}
 use Rattle.depth.specs.declared.Column.{Column}
+use Rattle.depth.specs.declared.Column.the-variants.{A}
 use Rattle.depth.specs.declared.Try.{Try}
 use Rattle.depth.specs.declared.Finding.{Finding}
 use Rattle.depth.specs.declared.Finding.the-variants.{Stays, Moves, Unusable}
+use Rattle.depth.specs.declared.DepthFigures.{DepthFigures}
 use Rattle.depth.specs.declared.Depth.{Depth}
 use Rattle.depth.specs.declared.Depth.the-variants.{Cut, NoCut}
 use Rattle.depth.specs.Squat.{none, columnNumber, squatReading}
-use Rattle.depth.specs.Depth.{z3, z4, sailing, sailingWith, naturalOf, ownColumn, Serves, Meets, Figures, AsDefined, depthNumber}
-use Rattle.depth.specs.Worksheet.{figure, columnTry, findingOf, tries, lastTry, answerBy, answerOf, workDepth, Forward, Counted}
+use Rattle.depth.specs.Depth.{z3, z4, sailing, sailingWith, naturalOf, ownColumn, Serves, Meets, Figures, AsDefined, Ranges, depthNumber}
+use Rattle.depth.specs.Worksheet.{figure, columnTry, findingOf, isMove, movesOn, tries, lastTry, answerBy, answerOf, workDepth, Forward, Followed, Counted}
 use Rattle.depth.proofs.Columns.{column-most, reading-most, column-up, same-column}
 use Rattle.depth.proofs.Squat.{squat-some}
 use Rattle.depth.proofs.Findings.{Says, finding-says}
 use Rattle.depth.proofs.Easier.{serves-earlier}
+use Rattle.depth.proofs.Tries.{tries-count}
+use Rattle.depth.proofs.Following.{walk-followed}
 use Rattle.depth.proofs.Walk.{Tells, Ends, walk-ends, walk-forward}
 
 -- a depth of these figures
 abbrev cutOf : ℕ → ℕ → ℕ → Depth
 cutOf cut sailing columns = Cut (record { cut = below cut; sailing = below sailing; columns = columns })
+
+stays-or-stops : (f : Finding) → (f ≡ Moves → ⊥) → isMove f ≡ false
+stays-or-stops Stays h = refl
+stays-or-stops Moves h = absurd (h refl)
+stays-or-stops Unusable h = refl
 
 module _ (q : Stretch) where
   -- a column's figure is the least cut it serves, where it serves any
@@ -104,8 +114,12 @@ module _ (q : Stretch) where
   pub last-never-moves : findingOf (lastTry (tries q)) ≡ Moves → ⊥
   last-never-moves = last-stays (findingOf (lastTry (tries q))) ends
 
+  pub tries-followed : Followed (columnTry q) A (tries q)
+  unfolding tries movesOn
+  tries-followed = walk-followed (columnTry q) 2 A (stays-or-stops (findingOf (lastTry (tries q))) last-never-moves)
+
   -- one depth is as defined
-  pub one-depth : (r s : Depth) → AsDefined q r → AsDefined q s → Counted q r → Counted q s → r ≡ s
+  one-depth : (r s : Depth) → AsDefined q r → AsDefined q s → Counted q r → Counted q s → r ≡ s
   one-depth (Cut f) (Cut g) a b m n =
       let e : f .cut .0 ≡ g .cut .0 = least-only (Meets q) (f .cut .0) (g .cut .0) (a .cut) (b .cut) in
       let k : f .sailing .0 ≡ g .sailing .0 = a .sailing-depth ∙ ap (λ (d : ℕ). sailing q (ownColumn q d)) e ∙ sym (b .sailing-depth) in
@@ -117,9 +131,36 @@ module _ (q : Stretch) where
   one-depth NoCut (Cut g) a b m n = absurd (a (g .cut .0) (b .cut .holds))
   one-depth NoCut NoCut a b m n = refl
 
+  pub no-other : (r : Depth) → AsDefined q r → Counted q r → r ≡ workDepth q
+  no-other r a n = one-depth r (workDepth q) a work-as-defined n work-counted
+
   no-cut-when : (r : Depth) → AsDefined q r → (depthNumber r ≡ 9) ↔ ((d : ℕ) → Meets q d → ⊥)
   no-cut-when (Cut f) a = ((λ e. absurd (omega arith)), (λ n. absurd (n (f .cut .0) (a .cut .holds))))
   no-cut-when NoCut a = ((λ e. a), (λ n. refl))
 
   pub nine-exactly : (depthNumber (workDepth q) ≡ 9) ↔ ((d : ℕ) → Meets q d → ⊥)
   nine-exactly = no-cut-when (workDepth q) work-as-defined
+
+  answered-when : (r : Depth) → AsDefined q r → (depthNumber r ≡ 0) ↔ ((d : ℕ) × Meets q d)
+  answered-when (Cut f) a = ((λ e. (f .cut .0, a .cut .holds)), (λ m. refl))
+  answered-when NoCut a = ((λ e. absurd (omega arith)), (λ m. absurd (a (m .0) (m .1))))
+
+  pub zero-exactly : (depthNumber (workDepth q) ≡ 0) ↔ ((d : ℕ) × Meets q d)
+  zero-exactly = answered-when (workDepth q) work-as-defined
+
+  -- what a caller may count on of the figures
+  module _ (f : DepthFigures) (is : workDepth q ≡ Cut f) where
+    figures-defined : Figures q f
+    figures-defined = subst (AsDefined q) is work-as-defined
+
+    pub figures-ranges : Ranges f
+    figures-ranges =
+        let m = figures-defined .cut .holds in
+        let n : f .columns ≡ length (tries q) = subst (Counted q) is work-counted in
+        record {
+          cut-from = m .from;
+          cut-to = m .to;
+          sailing-to = omega (arith, m .served .deep, figures-defined .sailing-depth);
+          columns-from = omega (arith, tries-count q);
+          columns-to = omega (arith, tries-count q);
+        }

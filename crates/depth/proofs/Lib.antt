@@ -4,7 +4,9 @@ pub mod Widths
 pub mod Findings
 pub mod Tries
 pub mod Walk
+pub mod Following
 pub mod Easier
 pub mod LeastCut
 pub mod Demand
 pub mod Starred
+pub mod Promises

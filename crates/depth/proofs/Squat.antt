@@ -12,7 +12,10 @@ use lib.ListN.{length, getD, List·getD-eq-default}
 use Rattle.laws.specs.Choice.{if_then_else_, _≤ᵇ_, _=ᵇ_}
 use Rattle.laws.specs.Every.{every}
 use Rattle.laws.proofs.Every.{every-at}
-use Rattle.depth.specs.Squat.{none, squatTable, squatEntry}
+use Rattle.lanes.specs.declared.Lanes.{Lanes}
+use Rattle.depth.specs.declared.Column.{Column}
+use Rattle.depth.specs.Squat.{none, squatTable, columnNumber, squatReading, squatEntry, squatOf}
+use Rattle.depth.proofs.Columns.{column-most, reading-most}
 
 -- the second test, where the first holds
 abbrev where-true : Bool → Bool → Bool
@@ -107,9 +110,16 @@ module _ (c c' l l' v v' : ℕ) (hc : c ≤ c') (hc' : c' ≤ 2) (hl : l ≤ l')
       (at-entry (λ d k x. each-entry (never-falls d k x)) never-falls-test c l v (omega arith) (omega arith) (omega arith)) c' l' v' hc' hl' h)
       (le→leb c c' hc)) (le→leb l l' hl)) (le→leb 2 v hv)) (le→leb v v' hv'))
 
-  pub squat-rises : squatEntry c l v ≤ squatEntry c' l' v'
+  squat-rises : squatEntry c l v ≤ squatEntry c' l' v'
   squat-rises = go (ltb 12 v') refl
     where
       go : (t : Bool) → ltb 12 v' ≡ t → squatEntry c l v ≤ squatEntry c' l' v'
       go true e = omega (arith, squat-most c l (omega arith) (omega arith) v, too-fast c' l' v' (ltb-true _ _ e))
       go false e = rises-in-table (ltb-false _ _ e)
+
+-- the same of lanes and columns
+pub lanes-columns-speeds : (lanes lanes' : Lanes) (c c' : Column) (v v' : ℕ) → squatReading lanes ≤ squatReading lanes'
+    → columnNumber c ≤ columnNumber c' → 2 ≤ v → v ≤ v' → squatOf lanes c v ≤ squatOf lanes' c' v'
+lanes-columns-speeds lanes lanes' c c' v v' hl hc hv hv' =
+    squat-rises (columnNumber c) (columnNumber c') (squatReading lanes) (squatReading lanes') v v' hc (column-most c') hl (reading-most lanes')
+    hv hv'

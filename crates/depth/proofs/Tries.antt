@@ -1,6 +1,6 @@
 -- The worksheet's tries are one, two or three, each the line of its column; as data they keep their order, and the last is where the count says.
 -- Assumes nothing.
-use mathlib.Core.Path.{_≡_, refl, sym, ap, _∙_}
+use mathlib.Core.Path.{_≡_, refl, sym, ap, ap₂, _∙_}
 use mathlib.Core.Bool.{Bool, true, false}
 use mathlib.Core.List.{List, [], _∷_, _++_}
 use Prim.Native.Nat.{ℕ, zero, suc, _+_, _-_, _≤_, _<_}
@@ -15,7 +15,7 @@ use Rattle.depth.specs.declared.Try.{Try}
 use Rattle.depth.specs.declared.Worksheet.{Worksheet}
 use Rattle.depth.specs.Squat.{columnNumber, squatOf}
 use Rattle.depth.specs.Depth.{z3, z4, sailing, sailingWith, siltTo, columnOf, naturalOf}
-use Rattle.depth.specs.Worksheet.{reckoned, columnTry, movesOn, walk, tries, blankTry, worksheetOf, lastTry, Forward, figure}
+use Rattle.depth.specs.Worksheet.{reckoned, columnTry, movesOn, walk, tries, blankTry, worksheetOf, lastTry, answerOf, workDepth, Forward, figure}
 
 -- one line of the walk
 module _ (line : Column → Try) (c : Column) where
@@ -144,6 +144,11 @@ module _ (q : Stretch) where
     last-is =
         ap (λ (v : Worksheet). getD (v .tries) (v .count - 1) blankTry) is
         ∙ last-line (tries q) (tries-count q .0) (tries-count q .1)
+
+  -- the depth is the answer of the last line
+  pub work-of-last : workDepth q ≡ answerOf (getD (worksheetOf q .tries) (worksheetOf q .count - 1) blankTry) (worksheetOf q .count)
+  unfolding workDepth
+  work-of-last = sym (ap₂ answerOf (last-is (worksheetOf q) refl) (count-is (worksheetOf q) refl))
 
 -- a line as the code has it
 pub line-is : (q : Stretch) (c : Column) (squat : ℕ) (s : ReckonedDepth) (silt : ℕ) (falls : Column) → squat ≡ squatOf (q .lanes) c (q .speed)

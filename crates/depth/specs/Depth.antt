@@ -79,6 +79,14 @@ abbrev pub AsDefined : Stretch → Depth → Type 0
 AsDefined q (Cut f) = Figures q f
 AsDefined q NoCut = (d : ℕ) → Meets q d → ⊥
 
+-- the ranges of the figures, for whoever uses them
+pub record Ranges (f : DepthFigures) : Type 0 where
+  pub cut-from : 1 ≤ f .cut .0
+  pub cut-to : f .cut .0 ≤ 3000
+  pub sailing-to : f .sailing .0 ≤ f .cut .0
+  pub columns-from : 1 ≤ f .columns
+  pub columns-to : f .columns ≤ 3
+
 -- the number that turns a sheet away (section 8), 0 for none
 abbrev pub depthNumber : Depth → ℕ
 depthNumber (Cut f) = 0

@@ -94,6 +94,12 @@ answerOf t columns = answerBy (findingOf t) t columns
 unfoldable pub workDepth : Stretch → Depth
 workDepth q = answerOf (lastTry (tries q)) (length (tries q))
 
+-- tries that follow the worksheet from a column on, with no word of how often it moves: it goes on exactly as long as it moves
+abbrev pub Followed : (Column → Try) → Column → List Try → Type 0
+Followed line c [] = ⊥
+Followed line c (t ∷ []) = (t ≡ line c) × (movesOn t ≡ false)
+Followed line c (t ∷ (u ∷ later)) = (t ≡ line c) × (movesOn t ≡ true) × Followed line (t .«falls_in») (u ∷ later)
+
 -- a depth that counts the columns as the worksheet has them
 abbrev pub Counted : Stretch → Depth → Type 0
 Counted q (Cut f) = f .columns ≡ length (tries q)
