@@ -1,8 +1,7 @@
 -- Demand 3 for the depth, by one argument: what meets the definition for a stretch that is harder by k cm of draft and wave allowance meets it
 -- k cm higher for the other, so the least cut is deeper by k or more and no refusal is cured.
 -- Assumes nothing.
-use mathlib.Core.Path.{_≡_, refl}
-use Prim.Native.Nat.{ℕ, _+_, _-_, _≤_, _<_}
+use Prim.Native.Nat.{ℕ, _+_, _-_, _≤_}
 use native.Mathlib.Omega.{arith}
 use Rattle.depth.specs.declared.Stretch.{Stretch}
 use Rattle.depth.specs.declared.Depth.{Depth}

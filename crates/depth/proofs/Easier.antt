@@ -8,7 +8,7 @@ use Rattle.laws.proofs.Rounding.{up-mono}
 use Rattle.depth.specs.declared.Stretch.{Stretch}
 use Rattle.depth.specs.declared.Column.{Column}
 use Rattle.depth.specs.Squat.{none, columnNumber, squatReading}
-use Rattle.depth.specs.Depth.{z1, z3, z4, naturalOf, sailing, sailingWith, siltTo, Serves}
+use Rattle.depth.specs.Depth.{z3, z4, sailing, sailingWith, siltTo, Serves}
 use Rattle.depth.specs.Harder.{Harder}
 use Rattle.depth.proofs.Squat.{entry-from, lanes-columns-speeds}
 

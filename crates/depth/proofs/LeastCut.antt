@@ -3,8 +3,7 @@
 use mathlib.Core.Path.{_≡_, refl, sym, ap, subst, _∙_}
 use mathlib.Core.Logic.{_↔_}
 use mathlib.Core.Bool.{false}
-use mathlib.Core.List.{List}
-use Prim.Native.Nat.{ℕ, _+_, _≤_, _<_}
+use Prim.Native.Nat.{ℕ, _≤_, _<_}
 use native.Mathlib.Nat.{le-refl}
 use native.Mathlib.Omega.{arith}
 use lib.ListN.{length}
@@ -63,7 +62,7 @@ module _ (q : Stretch) where
       let l = figure-least c (s .0 .entry) (s .0 .silt) in
       let e : ownColumn q (figure q c) ≡ c = same-column _ _ (s .1) in (
         l,
-        record { from = figure-some c; to = s .0 .to; served = rw e (l .holds) },
+        record { from = figure-some c; to = omega (arith, s .0 .to); served = rw e (l .holds) },
         e,
       )
   line-tells c Moves s = (figure-least c (s .0 .entry) (s .0 .silt), refl, s .1)

@@ -1,15 +1,15 @@
 -- The squat table: each entry is some squat, "none" is the greatest, and nothing falls from A to B to C, from lone to passing, or with the speed.
 -- One test of each rule is computed over the whole table and carried to each entry.
 -- Assumes nothing.
-use mathlib.Core.Path.{_≡_, refl, _∙_}
-use mathlib.Core.Bool.{Bool, true, false, _&&_}
-use mathlib.Core.List.{List, []}
+use mathlib.Core.Path.{_≡_, refl}
+use mathlib.Core.Bool.{Bool, true, false}
+use mathlib.Core.List.{[]}
 use Prim.Native.Nat.{ℕ, _+_, _-_, _*_, _≤_, _<_}
 use native.Mathlib.Omega.{arith}
 use borrow.Author.Tests.{ltb-true, ltb-false, lt-ltb, le-ltb}
-use lib.Dec.{T, leb, ltb, eqb, eqb→eq, leb→le, le→leb}
-use lib.ListN.{length, getD, List·getD-eq-default}
-use Rattle.laws.specs.Choice.{if_then_else_, _≤ᵇ_, _=ᵇ_}
+use lib.Dec.{T, leb, ltb, leb→le, le→leb}
+use lib.ListN.{getD}
+use Rattle.laws.specs.Choice.{if_then_else_, _≤ᵇ_}
 use Rattle.laws.specs.Every.{every}
 use Rattle.laws.proofs.Every.{every-at}
 use Rattle.lanes.specs.declared.Lanes.{Lanes}

@@ -1,13 +1,11 @@
-use mathlib.Core.Path.{_≡_}
+-- `depth::answer_of` meets its contract: an arm for each finding; a try that stays is at most 3,000, so its depths fit.
+-- Assumes nothing.
 use native.Mathlib.Omega.{arith}
 use Rattle.depth.specs.declared.Finding.the-variants.{Stays, Moves, Unusable}
 use Rattle.depth.proofs.Findings.{stays-within, answer-by}
 use borrow.Author.Needs.{needs}
 use Rattle.depth.proofs.answer_of.Statement.{statement}
 use Rattle.depth.proofs.answer_of.Tie as tie
-use Rattle.depth.proofs.answer_of.Reads as reads
-use Rattle.depth.proofs.answer_of.Lts as lts
-use Rattle.depth.proofs.finding_of.Reads as finding-of-reads
 
 finding-of-requires : tie.Need-finding-of-requires
 finding-of-requires c κs = search needs

@@ -1,11 +1,10 @@
+-- `depth::column_of` meets its contract: a way out for each column.
+-- Assumes nothing.
 use native.Mathlib.Omega.{arith}
 use Rattle.depth.proofs.Columns.{column-a, column-b, column-c}
 use borrow.Author.Needs.{needs}
 use Rattle.depth.proofs.column_of.Statement.{statement}
 use Rattle.depth.proofs.column_of.Tie as tie
-use Rattle.depth.proofs.column_of.Reads as reads
-use Rattle.depth.proofs.column_of.Lts as lts
-use Rattle.depth.proofs.dug_to.Reads as dug-to-reads
 
 dug-to-requires : tie.Need-dug-to-requires
 dug-to-requires c κs = search needs

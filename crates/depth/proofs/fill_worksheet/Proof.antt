@@ -1,14 +1,11 @@
+-- `depth::fill_worksheet` meets its contract: a way out for one, two and three tries.
+-- Assumes nothing.
 use mathlib.Core.Path.{sym, _∙_}
 use borrow.Author.Tests.{not-true, not-false}
 use Rattle.depth.proofs.Tries.{filled-one, filled-two, filled-three}
 use borrow.Author.Needs.{needs}
 use Rattle.depth.proofs.fill_worksheet.Statement.{statement}
 use Rattle.depth.proofs.fill_worksheet.Tie as tie
-use Rattle.depth.proofs.fill_worksheet.Reads as reads
-use Rattle.depth.proofs.fill_worksheet.Lts as lts
-use Rattle.depth.proofs.blank_try.Reads as blank-try-reads
-use Rattle.depth.proofs.moves_on.Reads as moves-on-reads
-use Rattle.depth.proofs.try_column.Reads as try-column-reads
 
 blank-try-requires : tie.Need-blank-try-requires
 blank-try-requires c κs = search needs

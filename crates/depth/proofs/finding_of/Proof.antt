@@ -1,11 +1,10 @@
+-- `depth::finding_of` meets its contract: a way out for each limit, and two where the figure falls.
+-- Assumes nothing.
 use native.Mathlib.Omega.{arith}
 use Rattle.depth.proofs.Findings.{no-entry, too-much-silt, too-deep, stays, moves}
 use borrow.Author.Needs.{needs}
 use Rattle.depth.proofs.finding_of.Statement.{statement}
 use Rattle.depth.proofs.finding_of.Tie as tie
-use Rattle.depth.proofs.finding_of.Reads as reads
-use Rattle.depth.proofs.finding_of.Lts as lts
-use Rattle.depth.proofs.column_number.Reads as column-number-reads
 
 returns : tie.Need-returns
 returns c = no-entry _ (omega arith)

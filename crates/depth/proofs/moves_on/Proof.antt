@@ -1,12 +1,10 @@
-use mathlib.Core.Path.{_≡_}
+-- `depth::moves_on` meets its contract: an arm for each finding.
+-- Assumes nothing.
 use Rattle.depth.specs.declared.Finding.the-variants.{Stays, Moves, Unusable}
 use Rattle.depth.proofs.Findings.{moves-by}
 use borrow.Author.Needs.{needs}
 use Rattle.depth.proofs.moves_on.Statement.{statement}
 use Rattle.depth.proofs.moves_on.Tie as tie
-use Rattle.depth.proofs.moves_on.Reads as reads
-use Rattle.depth.proofs.moves_on.Lts as lts
-use Rattle.depth.proofs.finding_of.Reads as finding-of-reads
 
 finding-of-requires : tie.Need-finding-of-requires
 finding-of-requires c κs = search needs

@@ -1,3 +1,5 @@
+-- `depth::sailing_depth` meets its contract: its five parts fit 19 bits together.
+-- Assumes nothing.
 use mathlib.Core.Path.{ap}
 use native.Mathlib.Omega.{arith}
 use Rattle.depth.specs.Depth.{sailingWith}
@@ -5,10 +7,6 @@ use Rattle.depth.specs.Worksheet.{reckoned}
 use borrow.Author.Needs.{needs}
 use Rattle.depth.proofs.sailing_depth.Statement.{statement}
 use Rattle.depth.proofs.sailing_depth.Tie as tie
-use Rattle.depth.proofs.sailing_depth.Reads as reads
-use Rattle.depth.proofs.sailing_depth.Lts as lts
-use Rattle.depth.proofs.z0.Reads as z0-reads
-use Rattle.depth.proofs.z1.Reads as z1-reads
 
 z0-requires : tie.Need-z0-requires
 z0-requires c κs = search needs

@@ -1,3 +1,5 @@
+-- `depth::silt_to` meets its contract: the product fits 51 bits.
+-- Assumes nothing.
 use Prim.Native.Nat.{_*_, _^_, _<_}
 use native.Mathlib.Omega.{arith}
 use Rattle.laws.proofs.Products.{product-lt}
@@ -6,9 +8,6 @@ use Rattle.depth.proofs.Widths.{silt-product}
 use borrow.Author.Needs.{needs}
 use Rattle.depth.proofs.silt_to.Statement.{statement}
 use Rattle.depth.proofs.silt_to.Tie as tie
-use Rattle.depth.proofs.silt_to.Reads as reads
-use Rattle.depth.proofs.silt_to.Lts as lts
-use Rattle.depth.proofs.dug_to.Reads as dug-to-reads
 
 dug-to-requires : tie.Need-dug-to-requires
 dug-to-requires c κs = search needs
@@ -42,7 +41,7 @@ add-result c = omega (arith, product c)
 
 returns : tie.Need-returns
 unfolding siltTo
-returns c = (rw (c .before .before .dug-to .ensures), omega (arith, product c))
+returns c = (rw (c .before .before .dug-to .ensures) (omega arith), omega (arith, product c))
 
 pub silt-to-spec : {M : Type 1} → statement M
 silt-to-spec =

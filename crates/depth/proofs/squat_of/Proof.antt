@@ -1,13 +1,11 @@
+-- `depth::squat_of` meets its contract: the table is the definition's, and a speed outside it is tested first.
+-- Assumes nothing.
 use native.Mathlib.Omega.{arith}
 use Rattle.depth.proofs.Columns.{column-most, reading-most}
 use Rattle.depth.proofs.Squat.{too-slow, too-fast, in-table}
 use borrow.Author.Needs.{needs}
 use Rattle.depth.proofs.squat_of.Statement.{statement}
 use Rattle.depth.proofs.squat_of.Tie as tie
-use Rattle.depth.proofs.squat_of.Reads as reads
-use Rattle.depth.proofs.squat_of.Lts as lts
-use Rattle.depth.proofs.column_number.Reads as column-number-reads
-use Rattle.depth.proofs.squat_reading.Reads as squat-reading-reads
 
 returns : tie.Need-returns
 returns c = too-slow _ _ _ (omega arith)

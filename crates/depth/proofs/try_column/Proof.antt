@@ -1,13 +1,9 @@
+-- `depth::try_column` meets its contract: each part is the definition's, of the parts before it.
+-- Assumes nothing.
 use Rattle.depth.proofs.Tries.{line-is}
 use borrow.Author.Needs.{needs}
 use Rattle.depth.proofs.try_column.Statement.{statement}
 use Rattle.depth.proofs.try_column.Tie as tie
-use Rattle.depth.proofs.try_column.Reads as reads
-use Rattle.depth.proofs.try_column.Lts as lts
-use Rattle.depth.proofs.column_of.Reads as column-of-reads
-use Rattle.depth.proofs.sailing_depth.Reads as sailing-depth-reads
-use Rattle.depth.proofs.silt_to.Reads as silt-to-reads
-use Rattle.depth.proofs.squat_of.Reads as squat-of-reads
 
 squat-of-requires : tie.Need-squat-of-requires
 squat-of-requires c κs = search needs

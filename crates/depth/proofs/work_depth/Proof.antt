@@ -1,3 +1,5 @@
+-- `depth::work_depth` meets its contract: the count is 1 to 3, and the line there is the last try.
+-- Assumes nothing.
 use mathlib.Core.Path.{ap₂, _∙_}
 use native.Mathlib.Omega.{arith}
 use Rattle.depth.specs.Worksheet.{answerOf, workDepth}
@@ -5,10 +7,6 @@ use Rattle.depth.proofs.Tries.{tries-count, count-is, last-is, last-sai
 use borrow.Author.Needs.{needs}
 use Rattle.depth.proofs.work_depth.Statement.{statement}
 use Rattle.depth.proofs.work_depth.Tie as tie
-use Rattle.depth.proofs.work_depth.Reads as reads
-use Rattle.depth.proofs.work_depth.Lts as lts
-use Rattle.depth.proofs.answer_of.Reads as answer-of-reads
-use Rattle.depth.proofs.fill_worksheet.Reads as fill-worksheet-reads
 
 fill-worksheet-requires : tie.Need-fill-worksheet-requires
 fill-worksheet-requires c κs = search needs

@@ -1,10 +1,10 @@
+-- `depth::z1` meets its contract: the product is small enough that nothing wraps.
+-- Assumes nothing.
 use native.Mathlib.Omega.{arith}
 use Rattle.depth.proofs.Widths.{keel-product}
 use borrow.Author.Needs.{needs}
 use Rattle.depth.proofs.z1.Statement.{statement}
 use Rattle.depth.proofs.z1.Tie as tie
-use Rattle.depth.proofs.z1.Reads as reads
-use Rattle.depth.proofs.z1.Lts as lts
 
 add-result : tie.Need-add-result
 add-result c = search needs
