@@ -3,6 +3,7 @@ pub mod Squat
 pub mod Widths
 pub mod Findings
 pub mod Tries
+pub mod Filled
 pub mod Walk
 pub mod Following
 pub mod Easier

@@ -22,7 +22,8 @@ use Rattle.depth.specs.Depth.{Meets, AsDefined, Ranges, depthNumber}
 use Rattle.depth.specs.Worksheet.{columnTry, blankTry, tries, worksheetOf, answerOf, workDepth, Forward, Followed, Counted}
 use Rattle.depth.specs.Harder.{Harder, Deeper, NeverCured}
 use Rattle.depth.proofs.Squat.{lanes-columns-speeds}
-use Rattle.depth.proofs.Tries.{tries-count, work-of-last}
+use Rattle.depth.proofs.Tries.{tries-count}
+use Rattle.depth.proofs.Filled.{work-of-last}
 use Rattle.depth.proofs.Following.{one-following}
 use Rattle.depth.proofs.LeastCut as least-cut
 use Rattle.depth.proofs.Demand.{work-deeper, work-never-cured}

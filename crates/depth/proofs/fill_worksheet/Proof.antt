@@ -2,7 +2,7 @@
 -- Assumes nothing.
 use mathlib.Core.Path.{sym, _∙_}
 use borrow.Author.Tests.{not-true, not-false}
-use Rattle.depth.proofs.Tries.{filled-one, filled-two, filled-three}
+use Rattle.depth.proofs.Filled.{filled-one, filled-two, filled-three}
 use borrow.Author.Needs.{needs}
 use Rattle.depth.proofs.fill_worksheet.Statement.{statement}
 use Rattle.depth.proofs.fill_worksheet.Tie as tie

@@ -3,7 +3,8 @@
 use mathlib.Core.Path.{ap₂, _∙_}
 use native.Mathlib.Omega.{arith}
 use Rattle.depth.specs.Worksheet.{answerOf, workDepth}
-use Rattle.depth.proofs.Tries.{tries-count, count-is, last-is, last-sails}
+use Rattle.depth.proofs.Tries.{tries-count, last-sails}
+use Rattle.depth.proofs.Filled.{count-is, last-is}
 use borrow.Author.Needs.{needs}
 use Rattle.depth.proofs.work_depth.Statement.{statement}
 use Rattle.depth.proofs.work_depth.Tie as tie
