@@ -28,18 +28,17 @@ use Rattle.depth.proofs.Findings.{Says, finding-says}
 use Rattle.depth.proofs.Easier.{serves-earlier}
 use Rattle.depth.proofs.Tries.{tries-count}
 use Rattle.depth.proofs.Following.{walk-followed}
-use Rattle.depth.proofs.Walk.{Tells, Ends, walk-ends, walk-forward}
+use Rattle.depth.proofs.Walk.{Tells, Ends, Walked, walk-right}
 
 -- a depth of these figures
 abbrev cutOf : ℕ → ℕ → ℕ → Depth
 cutOf cut sailing columns = Cut (record { cut = below cut; sailing = below sailing; columns = columns })
 
-stays-or-stops : (f : Finding) → (f ≡ Moves → ⊥) → isMove f ≡ false
-stays-or-stops Stays h = refl
-stays-or-stops Moves h = absurd (h refl)
-stays-or-stops Unusable h = refl
-
 module _ (q : Stretch) where
+  -- what a try says that ends this stretch's worksheet
+  abbrev EndsIt : Try → Finding → Type 0
+  EndsIt = Ends (ownColumn q) (Serves q) (Meets q) (columnTry q)
+
   -- a column's figure is the least cut it serves, where it serves any
   figure-least : (c : Column) → z3 q c < none → z4 q c ≤ 120 → Least (Serves q c) (figure q c)
   unfolding figure
@@ -73,19 +72,16 @@ module _ (q : Stretch) where
   unfolding columnTry
   line-column c = refl
 
-  ends : Ends (ownColumn q) (Serves q) (Meets q) (columnTry q) (lastTry (tries q)) (findingOf (lastTry (tries q)))
+  walked : Walked (ownColumn q) (Serves q) (Meets q) (columnTry q) (tries q)
   unfolding tries
-  ends =
-      walk-ends (ownColumn q) (Serves q) (Meets q) (columnTry q) (column-up (naturalOf q)) (serves-earlier q) (λ d m. m .served) line-column
+  walked =
+      walk-right (ownColumn q) (Serves q) (Meets q) (columnTry q) (column-up (naturalOf q)) (serves-earlier q) (λ d m. m .served) line-column
       (λ c. line-tells c (findingOf (columnTry q c)) (finding-says (columnTry q c)))
 
   pub tries-forward : Forward (tries q)
-  unfolding tries
-  tries-forward =
-      walk-forward (ownColumn q) (Serves q) (Meets q) (columnTry q) (column-up (naturalOf q)) (serves-earlier q) (λ d m. m .served) line-column
-      (λ c. line-tells c (findingOf (columnTry q c)) (finding-says (columnTry q c)))
+  tries-forward = walked .forward
 
-  answer-as-defined : (t : Try) (f : Finding) (columns : ℕ) → Ends (ownColumn q) (Serves q) (Meets q) (columnTry q) t f → AsDefined q (answerBy f t columns)
+  answer-as-defined : (t : Try) (f : Finding) (columns : ℕ) → EndsIt t f → AsDefined q (answerBy f t columns)
   unfolding columnTry
   answer-as-defined t Stays columns e = record { cut = e .0; sailing-depth = ap (λ (u : Try). u .sailing .0) (e .1) }
   answer-as-defined t Moves columns e = absurd e
@@ -93,7 +89,7 @@ module _ (q : Stretch) where
 
   pub work-as-defined : AsDefined q (workDepth q)
   unfolding workDepth answerOf
-  work-as-defined = answer-as-defined (lastTry (tries q)) (findingOf (lastTry (tries q))) (length (tries q)) ends
+  work-as-defined = answer-as-defined (lastTry (tries q)) (findingOf (lastTry (tries q))) (length (tries q)) (walked .ends)
 
   answer-counted : (t : Try) (f : Finding) → Counted q (answerBy f t (length (tries q)))
   answer-counted t Stays = refl
@@ -104,18 +100,15 @@ module _ (q : Stretch) where
   unfolding workDepth answerOf
   work-counted = answer-counted (lastTry (tries q)) (findingOf (lastTry (tries q)))
 
-  -- the worksheet ends because its last try stays or has no cut
-  last-stays : (f : Finding) → Ends (ownColumn q) (Serves q) (Meets q) (columnTry q) (lastTry (tries q)) f → f ≡ Moves → ⊥
-  last-stays Stays e p = let z : _≡_ {A = ℕ} 0 1 = cc in omega arith
-  last-stays Moves e p = e
-  last-stays Unusable e p = let z : _≡_ {A = ℕ} 0 1 = cc in omega arith
-
-  pub last-never-moves : findingOf (lastTry (tries q)) ≡ Moves → ⊥
-  last-never-moves = last-stays (findingOf (lastTry (tries q))) ends
+  -- the worksheet ends because its last try does not move
+  no-move : (t : Try) (f : Finding) → EndsIt t f → isMove f ≡ false
+  no-move t Stays e = refl
+  no-move t Moves e = absurd e
+  no-move t Unusable e = refl
 
   pub tries-followed : Followed (columnTry q) A (tries q)
   unfolding tries movesOn
-  tries-followed = walk-followed (columnTry q) 2 A (stays-or-stops (findingOf (lastTry (tries q))) last-never-moves)
+  tries-followed = walk-followed (columnTry q) 2 A (no-move (lastTry (tries q)) (findingOf (lastTry (tries q))) (walked .ends))
 
   -- one depth is as defined
   one-depth : (r s : Depth) → AsDefined q r → AsDefined q s → Counted q r → Counted q s → r ≡ s

@@ -31,6 +31,11 @@ module _ (own : ℕ → Column) (Fit : Column → ℕ → Type 0) (Good : ℕ �
   Ends t Moves = ⊥
   Ends t Unusable = (d : ℕ) → Good d → ⊥
 
+  -- the tries of a walk: they go forward, and the last says what it must
+  pub record Walked (l : List Try) : Type 0 where
+    pub ends : Ends (lastTry l) (findingOf (lastTry l))
+    pub forward : Forward l
+
   module _ (own-up : (d e : ℕ) → d ≤ e → columnNumber (own d) ≤ columnNumber (own e))
       (down : (c c' : Column) (d : ℕ) → columnNumber c ≤ columnNumber c' → Fit c' d → Fit c d)
       (fits : (d : ℕ) → Good d → Fit (own d) d)
@@ -55,7 +60,9 @@ module _ (own : ℕ → Column) (Fit : Column → ℕ → Type 0) (Good : ℕ �
     moved : (c : Column) → Begun c → Tells c (line c) Moves → Begun (line c .«falls_in») × (columnNumber c < columnNumber (line c .«falls_in»))
     moved c b t =
         let h : columnNumber c ≤ columnNumber (own (line c .figure .0)) = b .fit-past _ (t .0 .holds) in
-        (subst Begun (sym (t .1)) (next c _ b (t .0)), let k = t .2 in let e : columnNumber (line c .«falls_in») ≡ columnNumber (own (line c .figure .0)) = rw (t .1) in omega arith)
+        let e : columnNumber (line c .«falls_in») ≡ columnNumber (own (line c .figure .0)) = rw (t .1) in
+        let other = t .2 in
+        (subst Begun (sym (t .1)) (next c _ b (t .0)), omega arith)
 
     -- a column that ends the worksheet
     stopped : (c : Column) → Begun c → (f : Finding) → isMove f ≡ false → Tells c (line c) f → Ends (line c) f
@@ -75,11 +82,6 @@ module _ (own : ℕ → Column) (Fit : Column → ℕ → Type 0) (Good : ℕ �
     goes-on : (c : Column) → Begun c → movesOn (line c) ≡ true → Begun (line c .«falls_in») × (columnNumber c < columnNumber (line c .«falls_in»))
     unfolding movesOn
     goes-on c b e = moved c b (moving c (findingOf (line c)) e (tells c))
-
-    -- the tries from a column on: they go forward, and the last says what it must
-    record Walked (l : List Try) : Type 0 where
-      pub ends : Ends (lastTry l) (findingOf (lastTry l))
-      pub forward : Forward l
 
     one : (c : Column) → Begun c → movesOn (line c) ≡ false → Walked (line c ∷ [])
     one c b e = record { ends = ended c b e; forward = tt }
@@ -106,8 +108,5 @@ module _ (own : ℕ → Column) (Fit : Column → ℕ → Type 0) (Good : ℕ �
         go true e r = let g = goes-on c b e in more often c (line c .«falls_in») (g .1) (r (g .0) (g .1))
         go false e r = one c b e
 
-    pub walk-ends : Ends (lastTry (walk line 2 A)) (findingOf (lastTry (walk line 2 A)))
-    walk-ends = walked 2 A (record { good-past = λ d g. zero-le; fit-past = λ d f. zero-le }) (omega arith) .ends
-
-    pub walk-forward : Forward (walk line 2 A)
-    walk-forward = walked 2 A (record { good-past = λ d g. zero-le; fit-past = λ d f. zero-le }) (omega arith) .forward
+    pub walk-right : Walked (walk line 2 A)
+    walk-right = walked 2 A (record { good-past = λ d g. zero-le; fit-past = λ d f. zero-le }) (omega arith)
