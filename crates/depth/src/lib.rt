@@ -96,6 +96,7 @@ pub fn interval_of(code: u8) -> u16
     INTERVALS[code as usize]
 }
 
+// The columns in their order.
 fn column_number(column: Column) -> usize
     ensures { λ r. ⌜ r ≡ columnNumber column ⌝ }
 {
@@ -196,7 +197,8 @@ fn try_column(stretch: Stretch, column: Column) -> Try
     let squat = squat_of(lanes, column, stretch.speed);
     let sailing = sailing_depth(stretch, squat);
     let silt = silt_to(stretch, sailing);
-    let figure = ReckonedDepth(sailing.0 + silt);
+    let reached = sailing.0 + silt;
+    let figure = ReckonedDepth(reached);
     let falls_in = column_of(natural, figure);
     Try {
         column,

@@ -14,8 +14,8 @@ sailing-depth-requires c κs = search needs
 silt-to-requires : tie.Need-silt-to-requires
 silt-to-requires c κs = search needs
 
-add-t10 : tie.Need-add-t10
-add-t10 c = search needs
+add-reached : tie.Need-add-reached
+add-reached c = search needs
 
 column-of-requires : tie.Need-column-of-requires
 column-of-requires c κs = search needs
@@ -33,6 +33,6 @@ try-column-spec =
     squat-of-requires
     sailing-depth-requires
     silt-to-requires
-    add-t10
+    add-reached
     column-of-requires
     returns)
