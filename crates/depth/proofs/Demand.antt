@@ -1,0 +1,44 @@
+-- Demand 3 for the depth, by one argument: what meets the definition for a stretch that is harder by k cm of draft and wave allowance meets it
+-- k cm higher for the other, so the least cut is deeper by k or more and no refusal is cured.
+-- Assumes nothing.
+use Prim.Native.Nat.{ℕ, _+_, _-_, _≤_}
+use native.Mathlib.Omega.{arith}
+use Rattle.depth.specs.declared.Stretch.{Stretch}
+use Rattle.depth.specs.declared.Depth.{Depth}
+use Rattle.depth.specs.declared.Depth.the-variants.{Cut, NoCut}
+use Rattle.depth.specs.Depth.{naturalOf, ownColumn, Serves, Meets, AsDefined}
+use Rattle.depth.specs.Worksheet.{workDepth}
+use Rattle.depth.specs.Harder.{Harder, Deeper, NeverCured}
+use Rattle.depth.proofs.Columns.{column-up}
+use Rattle.depth.proofs.Easier.{table-speed, serves-easier}
+use Rattle.depth.proofs.LeastCut.{served-some, work-as-defined}
+
+module _ (q q' : Stretch) (h : Harder q q') (k : ℕ) (hk : q .draft + q .«wave_allowance» + k ≤ q' .draft + q' .«wave_allowance») where
+  module _ (from : 2 ≤ q .speed) where
+    meets-easier : (d : ℕ) → Meets q' d → (k ≤ d) × Meets q (d - k)
+    meets-easier d m =
+        let up = column-up (naturalOf q) (d - k) d (omega arith) in
+        let v : Serves q (ownColumn q (d - k)) (d - k) =
+        serves-easier q q' h from k hk (ownColumn q (d - k)) (ownColumn q d) up d (rw (← (h .natural)) (m .served)) in
+        let g : 1 ≤ d - k = served-some q _ _ v in
+        (omega arith, record { from = g; to = omega (arith, m .to); served = v })
+
+    never-cured : (r r' : Depth) → AsDefined q r → AsDefined q' r' → NeverCured r r'
+    never-cured (Cut f) r' a a' = tt
+    never-cured NoCut (Cut f') a a' = a (f' .cut .0 - k) (meets-easier (f' .cut .0) (a' .cut .holds) .1)
+    never-cured NoCut NoCut a a' = tt
+
+    pub work-never-cured : NeverCured (workDepth q) (workDepth q')
+    work-never-cured = never-cured (workDepth q) (workDepth q') (work-as-defined q) (work-as-defined q')
+
+  -- an answered stretch has a speed of the table
+  deeper : (r r' : Depth) → AsDefined q r → AsDefined q' r' → Deeper k r r'
+  deeper (Cut f) (Cut f') a a' =
+      let g = meets-easier (table-speed q _ (a .cut .holds .served .entry)) (f' .cut .0) (a' .cut .holds) in
+      omega (arith, g .0, a .cut .least (f' .cut .0 - k) (g .1))
+  deeper (Cut f) NoCut a a' = tt
+  deeper NoCut (Cut f') a a' = tt
+  deeper NoCut NoCut a a' = tt
+
+  pub work-deeper : Deeper k (workDepth q) (workDepth q')
+  work-deeper = deeper (workDepth q) (workDepth q') (work-as-defined q) (work-as-defined q')

@@ -1,0 +1,13 @@
+pub mod Columns
+pub mod Squat
+pub mod Widths
+pub mod Findings
+pub mod Tries
+pub mod Filled
+pub mod Walk
+pub mod Following
+pub mod Easier
+pub mod LeastCut
+pub mod Demand
+pub mod Starred
+pub mod Promises

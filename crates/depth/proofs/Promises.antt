@@ -1,0 +1,100 @@
+-- What the depth promises, in the paper's order. Each proof cites the one that does the work.
+-- Assumes nothing.
+use mathlib.Core.Path.{_≡_}
+use mathlib.Core.Logic.{_↔_}
+use mathlib.Core.List.{List, map}
+use Prim.Native.Nat.{ℕ, _-_, _≤_}
+use native.Mathlib.Omega.{arith}
+use lib.ListN.{length, getD}
+use Rattle.laws.proofs.Unique.{one-answer}
+use Rattle.lanes.specs.declared.Lanes.{Lanes}
+use Rattle.depth.specs.declared.Stretch.{Stretch}
+use Rattle.depth.specs.declared.Column.{Column}
+use Rattle.depth.specs.declared.Column.the-variants.{A}
+use Rattle.depth.specs.declared.Try.{Try}
+use Rattle.depth.specs.declared.Worksheet.{Worksheet}
+use Rattle.depth.specs.declared.DepthFigures.{DepthFigures}
+use Rattle.depth.specs.declared.Depth.{Depth}
+use Rattle.depth.specs.declared.Depth.the-variants.{Cut}
+use Rattle.depth.specs.Interval.{intervalOf}
+use Rattle.depth.specs.Squat.{columnNumber, squatReading, squatOf}
+use Rattle.depth.specs.Depth.{Meets, AsDefined, Ranges, depthNumber}
+use Rattle.depth.specs.Worksheet.{columnTry, blankTry, tries, worksheetOf, answerOf, workDepth, Forward, Followed, Counted}
+use Rattle.depth.specs.Harder.{Harder, Deeper, NeverCured}
+use Rattle.depth.proofs.Squat.{lanes-columns-speeds}
+use Rattle.depth.proofs.Tries.{tries-count}
+use Rattle.depth.proofs.Filled.{work-of-last}
+use Rattle.depth.proofs.Following.{one-following}
+use Rattle.depth.proofs.LeastCut as least-cut
+use Rattle.depth.proofs.Demand.{work-deeper, work-never-cured}
+use Rattle.depth.proofs.Starred as the-starred
+
+-- The squat never falls from column A to B to C, from lone to passing, or with the speed, from the table's first speed on; none counts as greatest.
+pub squat-never-falls : (lanes lanes' : Lanes) (c c' : Column) (speed speed' : ℕ) → squatReading lanes ≤ squatReading lanes'
+    → columnNumber c ≤ columnNumber c' → 2 ≤ speed → speed ≤ speed' → squatOf lanes c speed ≤ squatOf lanes' c' speed'
+squat-never-falls = lanes-columns-speeds
+
+-- The cut is the least d from 1 to 3,000 with an entry at its column, z4 at most 120 and d at least s + z4; the s of that column is the sailing depth.
+pub depth-is-as-defined : (q : Stretch) → AsDefined q (workDepth q)
+depth-is-as-defined = least-cut.work-as-defined
+
+-- Nothing else is that depth, with the worksheet's count.
+pub no-other-depth : (q : Stretch) (r : Depth) → AsDefined q r → Counted q r → r ≡ workDepth q
+no-other-depth = least-cut.no-other
+
+-- 9 is given exactly when there is no cut as defined, and the depth is answered exactly when there is one.
+pub nine-exactly : (q : Stretch) → (depthNumber (workDepth q) ≡ 9) ↔ ((d : ℕ) → Meets q d → ⊥)
+nine-exactly = least-cut.nine-exactly
+
+pub answered-exactly : (q : Stretch) → (depthNumber (workDepth q) ≡ 0) ↔ ((d : ℕ) × Meets q d)
+answered-exactly = least-cut.zero-exactly
+
+-- The worksheet begins in column A and moves to the column its figure falls in until it stays; no other tries do.
+pub worksheet-followed : (q : Stretch) → Followed (columnTry q) A (tries q)
+worksheet-followed = least-cut.tries-followed
+
+pub no-other-worksheet : (q : Stretch) (l : List Try) → Followed (columnTry q) A l → l ≡ tries q
+no-other-worksheet q l f = one-following (columnTry q) A l (tries q) f (least-cut.tries-followed q)
+
+-- It never moves back.
+pub worksheet-goes-forward : (q : Stretch) → Forward (tries q)
+worksheet-goes-forward = least-cut.tries-forward
+
+-- The number of columns tried is 1 to 3.
+pub columns-one-to-three : (q : Stretch) → (1 ≤ length (tries q)) × (length (tries q) ≤ 3)
+columns-one-to-three = tries-count
+
+-- It is reported, and equals the worksheet's.
+pub columns-counted : (q : Stretch) → Counted q (workDepth q)
+columns-counted = least-cut.work-counted
+
+-- The depth is what the last line of the worksheet gives, and the count is where it stands.
+pub depth-of-last-try : (q : Stretch)
+    → workDepth q ≡ answerOf (getD (worksheetOf q .tries) (worksheetOf q .count - 1) blankTry) (worksheetOf q .count)
+depth-of-last-try = work-of-last
+
+-- The figures are within these ranges.
+pub figures-in-range : (q : Stretch) (f : DepthFigures) → workDepth q ≡ Cut f → Ranges f
+figures-in-range = least-cut.figures-ranges
+
+-- Demand 3: a stretch that is as hard or harder, over the same natural depth, is never shallower where both are answered.
+pub never-shallower : (q q' : Stretch) → Harder q q' → Deeper 0 (workDepth q) (workDepth q')
+never-shallower q q' h = work-deeper q q' h 0 (omega arith)
+
+-- Nor is a refusal ever cured by it. A speed under 2 has no entry and a faster one may have, so the easier speed is at least 2, as on every sheet.
+pub never-cured : (q q' : Stretch) → Harder q q' → 2 ≤ q .speed → NeverCured (workDepth q) (workDepth q')
+never-cured q q' h from = work-never-cured q q' h 0 (omega arith) from
+
+-- The starred figures: S, two lanes, P 100, bed 0, z2 31 over bed 578 and 577, speed 12 over bed 610 and 600.
+pub starred : map workDepth the-starred.cases ≡ the-starred.figures
+starred = the-starred.starred
+
+-- Each call has one result.
+pub one-interval : (code r s : ℕ) → r ≡ intervalOf code → s ≡ intervalOf code → r ≡ s
+one-interval code = one-answer
+
+pub one-worksheet : (q : Stretch) (r s : Worksheet) → r ≡ worksheetOf q → s ≡ worksheetOf q → r ≡ s
+one-worksheet q = one-answer
+
+pub one-depth : (q : Stretch) (r s : Depth) → r ≡ workDepth q → s ≡ workDepth q → r ≡ s
+one-depth q = one-answer

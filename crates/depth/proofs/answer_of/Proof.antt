@@ -1,0 +1,50 @@
+-- `depth::answer_of` meets its contract: an arm for each finding; a try that stays is at most 3,000, so its depths fit.
+-- Assumes nothing.
+use mathlib.Core.Path.{sym, _∙_}
+use native.Mathlib.Omega.{arith}
+use Rattle.depth.specs.declared.Finding.the-variants.{Stays, Moves, Unusable}
+use Rattle.depth.proofs.Findings.{stays-within, answer-by}
+use borrow.Author.Needs.{needs}
+use Rattle.depth.proofs.answer_of.Statement.{statement}
+use Rattle.depth.proofs.answer_of.Tie as tie
+
+finding-of-requires : tie.Need-finding-of-requires
+finding-of-requires c κs = search needs
+
+enum-told : tie.Need-enum-told
+enum-told c = search needs
+
+cast-t5 : tie.Need-cast-t5
+cast-t5 c = omega (arith, stays-within (c .before .before .before .before .args .last) (sym (c .before .before .before .finding-of .ensures) ∙ c .before .enum-told .given .1) .to)
+
+cast-t7 : tie.Need-cast-t7
+cast-t7 c = omega (arith, stays-within (c .before .before .before .before .before .args .last) (sym (c .before .before .before .before .finding-of .ensures) ∙ c .before .before .enum-told .given .1) .to)
+
+enum-told-2 : tie.Need-enum-told-2
+enum-told-2 c = search needs
+
+enum-told-3 : tie.Need-enum-told-3
+enum-told-3 c = search needs
+
+returns : tie.Need-returns
+returns c = let a = c .before .before .before .before .before .args in answer-by (a .last) Stays (sym (c .before .before .before .before .finding-of .ensures) ∙ c .before .before .enum-told .given .1) (a .columns)
+
+returns-2 : tie.Need-returns-2
+returns-2 c = let a = c .before .before .before .args in answer-by (a .last) Moves (sym (c .before .before .finding-of .ensures) ∙ c .enum-told2 .given .1) (a .columns)
+
+returns-3 : tie.Need-returns-3
+returns-3 c = let a = c .before .before .before .args in answer-by (a .last) Unusable (sym (c .before .before .finding-of .ensures) ∙ c .enum-told3 .given .1) (a .columns)
+
+pub answer-of-spec : {M : Type 1} → statement M
+answer-of-spec =
+    tie.close
+    (tie.spec
+    finding-of-requires
+    enum-told
+    cast-t5
+    cast-t7
+    enum-told-2
+    enum-told-3
+    returns
+    returns-2
+    returns-3)

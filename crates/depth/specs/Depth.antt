@@ -1,0 +1,93 @@
+-- Depth below the design level (sections 4.2 to 4.6), all in cm: what the cut is, with no method of finding it.
+use mathlib.Core.Path.{_≡_}
+use Prim.Native.Nat.{ℕ, _+_, _-_, _*_, _≤_, _<_}
+use Rattle.laws.specs.Choice.{if_then_else_, _≤ᵇ_}
+use Rattle.laws.specs.Rounding.{up}
+use Rattle.laws.specs.Extremes.{Least}
+use Rattle.depth.specs.declared.Stretch.{Stretch}
+use Rattle.depth.specs.declared.Column.{Column}
+use Rattle.depth.specs.declared.Column.the-variants.{A, B, C}
+use Rattle.depth.specs.declared.DepthFigures.{DepthFigures}
+use Rattle.depth.specs.declared.Depth.{Depth}
+use Rattle.depth.specs.declared.Depth.the-variants.{Cut, NoCut}
+use Rattle.depth.specs.Squat.{none, squatOf}
+
+-- z0: the ship's list and trim, a four-hundredth of its length, rounded up
+abbrev pub z0 : Stretch → ℕ
+z0 q = up (q .length) 400
+
+-- z1: the room under the keel, 4 hundredths of the draft and one more for each soil grade, rounded up
+abbrev pub z1 : Stretch → ℕ
+z1 q = up (q .draft * (4 + q .soil)) 100
+
+-- z2: the wave allowance, as it is given
+abbrev pub z2 : Stretch → ℕ
+z2 q = q .«wave_allowance»
+
+-- z3: the squat of a column at the ship's speed
+unfoldable pub z3 : Stretch → Column → ℕ
+z3 q c = squatOf (q .lanes) c (q .speed)
+
+-- N: the natural depth
+abbrev pub naturalOf : Stretch → ℕ
+naturalOf q = q .natural .0
+
+-- the column of a cut d over the natural depth N, with h = d - N, or 0 if negative: A when 10h ≤ 5d, B when 10h ≤ 8d, else C
+unfoldable pub columnOf : ℕ → ℕ → Column
+columnOf natural d =
+    if 10 * (d - natural) ≤ᵇ 5 * d then A else (if 10 * (d - natural) ≤ᵇ 8 * d then B else C)
+
+-- sailing depth s = draft + z0 + z1 + z2 + z3, here with any squat
+unfoldable pub sailingWith : Stretch → ℕ → ℕ
+sailingWith q squat = q .draft + z0 q + z1 q + z2 q + squat
+
+-- s: the sailing depth of a column
+unfoldable pub sailing : Stretch → Column → ℕ
+sailing q c = sailingWith q (z3 q c)
+
+-- silt = P × interval × (s - N) / 100,000, rounded up; 0 when s ≤ N, as s - N is then 0
+unfoldable pub siltTo : Stretch → ℕ → ℕ
+siltTo q s = up (q .silting * q .interval * (s - naturalOf q)) 100000
+
+-- z4: the silt of a column
+unfoldable pub z4 : Stretch → Column → ℕ
+z4 q c = siltTo q (sailing q c)
+
+-- a column serves a cut d: it has an entry, z4 is at most 120, and d is at least s + z4
+pub record Serves (q : Stretch) (c : Column) (d : ℕ) : Type 0 where
+  pub entry : z3 q c < none
+  pub silt : z4 q c ≤ 120
+  pub deep : sailing q c + z4 q c ≤ d
+
+-- the column in which a cut falls
+abbrev pub ownColumn : Stretch → ℕ → Column
+ownColumn q d = columnOf (naturalOf q) d
+
+-- a cut as it must be: from 1 to 3,000, and served by its own column
+pub record Meets (q : Stretch) (d : ℕ) : Type 0 where
+  pub from : 1 ≤ d
+  pub to : d ≤ 3000
+  pub served : Serves q (ownColumn q d) d
+
+-- what the figures of a depth are: the cut is the least that meets this, and the s of its column is the sailing depth
+pub record Figures (q : Stretch) (f : DepthFigures) : Type 0 where
+  pub cut : Least (Meets q) (f .cut .0)
+  pub sailing-depth : f .sailing .0 ≡ sailing q (ownColumn q (f .cut .0))
+
+-- a depth as it is defined: the figures, or that no cut meets this
+abbrev pub AsDefined : Stretch → Depth → Type 0
+AsDefined q (Cut f) = Figures q f
+AsDefined q NoCut = (d : ℕ) → Meets q d → ⊥
+
+-- the ranges of the figures, for whoever uses them
+pub record Ranges (f : DepthFigures) : Type 0 where
+  pub cut-from : 1 ≤ f .cut .0
+  pub cut-to : f .cut .0 ≤ 3000
+  pub sailing-to : f .sailing .0 ≤ f .cut .0
+  pub columns-from : 1 ≤ f .columns
+  pub columns-to : f .columns ≤ 3
+
+-- the number that turns a sheet away (section 8), 0 for none
+abbrev pub depthNumber : Depth → ℕ
+depthNumber (Cut f) = 0
+depthNumber NoCut = 9
