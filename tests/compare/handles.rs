@@ -10,6 +10,8 @@ pub enum Handle {
     WriteSheet,
     AddReadings,
     DesignLevel,
+    Depth,
+    Worksheet,
 }
 
 pub struct Handles {

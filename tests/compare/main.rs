@@ -4,6 +4,7 @@
 #[path = "../second/second.rs"]
 mod second;
 
+mod depths;
 mod gauges;
 mod handles;
 mod report;
@@ -16,6 +17,7 @@ fn main() {
         "writing-sheets" => sheets::writing(),
         "adding-readings" => gauges::adding(),
         "design-levels" => gauges::levels(),
+        "depths" => depths::depths(),
         _ => {
             eprintln!("compare: no comparison is called '{name}'");
             std::process::exit(2);

@@ -7,7 +7,7 @@
 
 typedef uint32_t call(const void *input, size_t count, void *place, size_t room);
 
-extern call trial_read, trial_write, trial_add, trial_level;
+extern call trial_read, trial_write, trial_add, trial_level, trial_depth, trial_worksheet;
 
 /* A handle, and the bytes of one element of its input and of its place. */
 struct handle {
@@ -20,6 +20,8 @@ static const struct handle handles[] = {
     {trial_write, 4, 1},
     {trial_add, 4, 4},
     {trial_level, 4, 1},
+    {trial_depth, 4, 4},
+    {trial_worksheet, 4, 4},
 };
 
 static int take(void *to, size_t count) { return fread(to, 1, count, stdin) == count; }

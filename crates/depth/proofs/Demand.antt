@@ -13,7 +13,7 @@ use Rattle.depth.proofs.Columns.{column-up}
 use Rattle.depth.proofs.Easier.{table-speed, serves-easier}
 use Rattle.depth.proofs.LeastCut.{served-some, work-as-defined}
 
-module _ (q q' : Stretch) (h : Harder q q') (k : ℕ) (hk : q .draft + q .«wave_allowance» + k ≤ q' .draft + q' .«wave_allowance») where
+module _ (q q' : Stretch) (h : Harder q q') (k : ℕ) (hk : q .draft + q .allowance + k ≤ q' .draft + q' .allowance) where
   module _ (from : 2 ≤ q .speed) where
     meets-easier : (d : ℕ) → Meets q' d → (k ≤ d) × Meets q (d - k)
     meets-easier d m =

@@ -27,7 +27,7 @@ module _ (q q' : Stretch) (h : Harder q q') where
   silt-rises s s' hs = up-mono 100000 (omega arith) (mul-le-mul (mul-le-mul (h .silting) (h .interval)) (omega arith))
 
   -- by k cm of draft and wave allowance
-  sailing-rises : (k : ℕ) → q .draft + q .«wave_allowance» + k ≤ q' .draft + q' .«wave_allowance» → (z z' : ℕ) → z ≤ z'
+  sailing-rises : (k : ℕ) → q .draft + q .allowance + k ≤ q' .draft + q' .allowance → (z z' : ℕ) → z ≤ z'
       → sailingWith q z + k ≤ sailingWith q' z'
   unfolding sailingWith
   sailing-rises k hk z z' hz =
@@ -39,7 +39,7 @@ module _ (q q' : Stretch) (h : Harder q q') where
     unfolding z3
     squat-harder c c' hc = lanes-columns-speeds (q .lanes) (q' .lanes) c c' (q .speed) (q' .speed) (h .lanes) hc from (h .speed)
 
-    pub serves-easier : (k : ℕ) → q .draft + q .«wave_allowance» + k ≤ q' .draft + q' .«wave_allowance» → (c c' : Column)
+    pub serves-easier : (k : ℕ) → q .draft + q .allowance + k ≤ q' .draft + q' .allowance → (c c' : Column)
         → columnNumber c ≤ columnNumber c' → (d : ℕ) → Serves q' c' d → Serves q c (d - k)
     unfolding sailing z4
     serves-easier k hk c c' hc d v =

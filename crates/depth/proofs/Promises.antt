@@ -1,4 +1,4 @@
--- What the depth promises, in the paper's order. Each proof cites the one that does the work.
+-- What the depth promises, in the definition's order. Each proof cites the one that does the work.
 -- Assumes nothing.
 use mathlib.Core.Path.{_≡_}
 use mathlib.Core.Logic.{_↔_}

@@ -15,11 +15,11 @@ use Rattle.depth.specs.Worksheet.{figure, columnTry, findingOf, movesOn,
 
 -- S over a bed, with its other fields as the case has them
 abbrev pub S : ℕ → ℕ → ℕ → ℕ → Lanes → Stretch
-S bed speed wave-allowance silting lanes = record {
+S bed speed allowance silting lanes = record {
   draft = 1000;
   length = 20000;
   soil = 0;
-  «wave_allowance» = wave-allowance;
+  allowance = allowance;
   silting = silting;
   interval = 100;
   natural = below bed;

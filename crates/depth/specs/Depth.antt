@@ -22,7 +22,7 @@ z1 q = up (q .draft * (4 + q .soil)) 100
 
 -- z2: the wave allowance, as it is given
 abbrev pub z2 : Stretch → ℕ
-z2 q = q .«wave_allowance»
+z2 q = q .allowance
 
 -- z3: the squat of a column at the ship's speed
 unfoldable pub z3 : Stretch → Column → ℕ

@@ -11,7 +11,7 @@ pub record Harder (q q' : Stretch) : Type 0 where
   pub draft : q .draft ≤ q' .draft
   pub length : q .length ≤ q' .length
   pub soil : q .soil ≤ q' .soil
-  pub wave : q .«wave_allowance» ≤ q' .«wave_allowance»
+  pub wave : q .allowance ≤ q' .allowance
   pub silting : q .silting ≤ q' .silting
   pub interval : q .interval ≤ q' .interval
   pub speed : q .speed ≤ q' .speed

@@ -15,7 +15,7 @@ pub struct Stretch {
     pub draft: u16,
     pub length: u16,
     pub soil: u8,
-    pub wave_allowance: u16,
+    pub allowance: u16,
     pub silting: u16,
     pub interval: u16,
     pub natural: BelowLevel,
@@ -175,7 +175,7 @@ fn sailing_depth(stretch: Stretch, squat: u16) -> ReckonedDepth
     let draft = stretch.draft;
     let list = z0(stretch.length);
     let keel = z1(draft, stretch.soil);
-    ReckonedDepth(draft as u64 + list + keel + stretch.wave_allowance as u64 + squat as u64)
+    ReckonedDepth(draft as u64 + list + keel + stretch.allowance as u64 + squat as u64)
 }
 
 // The silt over what is dug down to a sailing depth, rounded up.

@@ -1,3 +1,4 @@
 // The handles by which the tests call the rooms: numbers and slices, for a program in another language.
+mod depths;
 mod gauges;
 mod sheets;
