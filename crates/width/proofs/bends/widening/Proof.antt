@@ -1,0 +1,78 @@
+-- `width::bends::widening` meets its contract: the fraction in its lowest terms, divided in two steps, is the definition's, and fits.
+-- Assumes nothing.
+use Prim.Native.Nat.{ℕ, _*_, _≤_, _<_}
+use native.Mathlib.Nat.{mul-le-mul}
+use native.Mathlib.Omega.{arith}
+use borrow.Author.Needs.{needs}
+use Rattle.width.proofs.Curves.{lanes-within, square-within, turned-within, ship-within, scaled-within, widening-within, widening-is}
+use Rattle.width.proofs.bends.widening.Statement.{statement}
+use Rattle.width.proofs.bends.widening.Tie as tie
+
+mul-ship : tie.Need-mul-ship
+mul-ship c = search needs
+
+mul-ship-2 : tie.Need-mul-ship-2
+mul-ship-2 c = record { fits = omega (arith, square-within (c .args .turn) (c .args .knots) 0 (search needs) (search needs) (search needs)) }
+
+mul-ship-3 : tie.Need-mul-ship-3
+mul-ship-3 c = record { fits = omega (arith, turned-within (c .args .turn) (c .args .knots) 0 (search needs) (search needs) (search needs)) }
+
+lane-count-requires : tie.Need-lane-count-requires
+lane-count-requires c κs = search needs
+
+-- the product of the ship's figures is small, and so is what comes before the radius
+module _ (c : tie.After-lane-count) where
+  abbrev start : tie.Start
+  start = c .before
+
+  abbrev ship : ℕ
+  ship = 1143 * start .args .turn * (start .args .knots * start .args .knots) * c .lane-count .result
+
+  ship-small : ship < 124 * 305750000
+  ship-small =
+      ship-within (start .args .turn) (start .args .knots) (c .lane-count .result) (search needs) (search needs)
+      (omega (arith, c .lane-count .ensures, lanes-within (start .args .lanes)))
+
+  square-small : start .args .length * start .args .length ≤ 65535 * 65535
+  square-small = mul-le-mul {n₁ = start .args .length} {m₁ = start .args .length} {n₂ = 65535} {m₂ = 65535} (search needs) (search needs)
+
+mul-ship-4 : tie.Need-mul-ship-4
+mul-ship-4 c = record { fits = omega (arith, ship-small c) }
+
+mul-square : tie.Need-mul-square
+mul-square c = record { fits = omega (arith, square-small c) }
+
+scaled-requires : tie.Need-scaled-requires
+scaled-requires c κs = (ship-small c, omega (arith, square-small c))
+
+sub-result : tie.Need-sub-result
+sub-result c = search needs
+
+add-result : tie.Need-add-result
+add-result c = record { fits = omega (arith, square-small (c .before), scaled-within (ship (c .before)) (c .before .before .args .length) (c .scaled .result) (ship-small (c .before)) (c .scaled .ensures)) }
+
+div-result : tie.Need-div-result
+div-result c = search needs
+
+cast-result : tie.Need-cast-result
+cast-result c = record { fits = omega (arith, widening-within (ship (c .before)) (c .before .before .args .length) (c .scaled .result) (ship-small (c .before)) (c .scaled .ensures) (c .before .before .args .radius) (c .before .before .pre)) }
+
+returns : tie.Need-returns
+returns c = widening-is _ _ _ _ _ _ _ (c .before .before .pre .some) (c .before .lane-count .ensures) (c .scaled .ensures)
+
+pub widening-spec : {M : Type 1} → statement M
+widening-spec =
+    tie.close
+    (tie.spec
+    mul-ship
+    mul-ship-2
+    mul-ship-3
+    lane-count-requires
+    mul-ship-4
+    mul-square
+    scaled-requires
+    sub-result
+    add-result
+    div-result
+    cast-result
+    returns)

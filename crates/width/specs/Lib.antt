@@ -1,0 +1,6 @@
+-- The width and the bends: definition, sections 5 and 6.
+pub mod Bands
+pub mod Additions
+pub mod Width
+pub mod Bends
+pub mod Rows
