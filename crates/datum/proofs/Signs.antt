@@ -38,7 +38,7 @@ module _ (w : Width) (held : ℕ) (small : held + 502 < 2 ^ hbits w) where
   pub level-fits : SFits w (toZ w held -ℤ pos 500)
   level-fits = rw level-is (record { sfits = omega (arith, mag-sub (pos held) (pos 500)) })
 
-  level-back : toZ w (ofZ w (toZ w held -ℤ pos 500)) ≡ pos held -ℤ pos 500
+  pub level-back : toZ w (ofZ w (toZ w held -ℤ pos 500)) ≡ pos held -ℤ pos 500
   level-back = toZ-ofZ level-fits ∙ level-is
 
   -- a number less that level

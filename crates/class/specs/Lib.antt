@@ -1,0 +1,2 @@
+-- Classes: definition, section 7.
+pub mod Class
