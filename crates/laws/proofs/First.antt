@@ -92,6 +92,13 @@ module _ (test : ℕ → Bool) (n : ℕ) where
       go r e (found m h q here none) = absurd (omega arith)
       go r e (nowhere q none) = ap test (sym (zero-add j)) ∙ none j l
 
+  pub first-within : firstOf test n ≤ n
+  first-within = go (firstOf test n) (tell test 0 n)
+    where
+      go : (r : ℕ) → Told test 0 n r → r ≤ n
+      go r (found m l q here none) = omega arith
+      go r (nowhere q none) = omega arith
+
   -- the search answers k + 1 exactly when k is the first place, and 0 exactly when there is none
   pub first-exactly : (k : ℕ) → (firstOf test n ≡ k + 1) ↔ FirstAt test n k
   first-exactly k = (is-first k, first-is k)

@@ -15,5 +15,6 @@ pub mod BadFields
 pub mod OneWriting
 pub mod Reading
 pub mod Writing
+pub mod Ranges
 pub mod CaseS
 pub mod Promises

@@ -1,0 +1,3 @@
+-- The design: definition, section 8.
+pub mod Design
+pub mod Numbers

@@ -1,0 +1,81 @@
+// A design: from any bytes and a level table to its figures, or the reason why there are none (definition, section 8).
+ghost use mathlib.Core.Path.{_≡_};
+ghost use Rattle.design.specs.Design.{designAt, designOf};
+ghost use Rattle.design.specs.Numbers.{numbersOf};
+use datum::BelowChart;
+use datum::BelowLevel;
+use datum::Level;
+use gauge::LevelRead;
+use lanes::Lanes;
+use sheet::SheetRead;
+
+mod checks;
+mod numbering;
+mod working;
+
+// Why a sheet is turned away, in the order of the checks.
+pub enum Reason {
+    WrongLength,
+    SpareBitSet,
+    BadField(u8),
+    WrongTable,
+    TooFewReadings,
+    RangeTooWide,
+    BendTooTight,
+    NoWidthEntry,
+    NoCut,
+}
+
+// The figures of a sheet that is answered, in cm.
+pub struct Figures {
+    pub level: Level,
+    pub lanes: Lanes,
+    pub sailing: BelowLevel,
+    pub cut: BelowLevel,
+    // the cut, below chart datum
+    pub datum: BelowChart,
+    // without widening
+    pub width: i32,
+    pub widening: i32,
+    // tried on the worksheet
+    pub columns: u8,
+    // classes: by ship, by width, by depth
+    pub ship: u8,
+    pub wide: u8,
+    pub deep: u8,
+}
+
+pub enum Answer {
+    Answered(Figures),
+    Refused(Reason),
+}
+
+// The design of a sheet over a level table.
+pub fn design(bytes: &[u8], table: &[u32]) -> Answer
+    ensures { λ r. ⌜ r ≡ designOf (now (bytes .entry)) (now (table .entry)) ⌝ }
+{
+    design_at(bytes, gauge::design_level(table))
+}
+
+// The same at a level that is already read off the table, for a caller with many sheets.
+pub fn design_at(bytes: &[u8], level: LevelRead) -> Answer
+    ensures { λ r. ⌜ r ≡ designAt (now (bytes .entry)) level ⌝ }
+{
+    let reading = sheet::read(bytes);
+    match reading {
+        SheetRead::Good(sheet) => checks::of_sheet(sheet, level),
+        SheetRead::WrongLength => Answer::Refused(Reason::WrongLength),
+        SheetRead::SpareBitSet => Answer::Refused(Reason::SpareBitSet),
+        SheetRead::BadField(k) => Answer::Refused(Reason::BadField(k as u8)),
+    }
+}
+
+// The thirteen numbers of a design.
+pub fn numbers(design: Answer) -> [i32; 13]
+    ensures { λ r. ⌜ r ≡ numbersOf design ⌝ }
+{
+    match design {
+        Answer::Answered(figures) => numbering::answered(figures),
+        Answer::Refused(reason) => numbering::refused(reason),
+    }
+}

@@ -1,0 +1,93 @@
+-- `plan::put_numbers` meets its contract: after i numbers stand their bytes, then what stood there before.
+-- Assumes nothing.
+use Prim.Native.Nat.{ℕ, _+_, _*_, _-_, _≤_}
+use mathlib.Core.Path.{_≡_, refl, ap, _∙_}
+use mathlib.Core.List.{List, _++_}
+use native.Mathlib.Omega.{arith}
+use lib.IntN.{ℤ, pos}
+use lib.ListN.{length, take, drop, getD}
+use lib.Seq.{take-all, length-sets}
+use borrow.Author.Needs.{needs}
+use mir.Syntax.{w32}
+use mir.Val.{toZ, ofZ}
+use mir.Facts.{toZ-ofZ}
+use Rattle.plan.specs.Words.{wordBytes, bytesOfNumbers}
+use Rattle.plan.proofs.Placing.{one-more}
+use Rattle.plan.proofs.put_numbers.Statement.{statement}
+use Rattle.plan.proofs.put_numbers.Tie as tie
+use Rattle.plan.proofs.put_numbers.Reads as reads
+use Rattle.plan.proofs.put_numbers.Lts as lts
+use Rattle.plan.proofs.put_word.Reads as put-word-reads
+use Rattle.plan.proofs.word_of.Reads as word-of-reads
+
+abbrev Inv-loop : tie.InvT-loop
+Inv-loop place₀ numbers i₀ place i =
+    (i ≤ 13) × (length place ≡ length place₀) × (place ≡ bytesOfNumbers (take i numbers) ++ drop (4 * i) place₀) × (length numbers ≡ 13)
+
+abbrev μ-loop : tie.MeasureT-loop
+μ-loop place₀ numbers i₀ place i = 13 - i
+
+loop-holds : tie.Need-loop-holds Inv-loop μ-loop
+loop-holds c = (omega arith, refl, refl, search needs)
+
+mul-number : tie.Need-mul-number Inv-loop μ-loop
+mul-number c = omega arith
+
+array-copy-out-number : tie.Need-array-copy-out-number Inv-loop μ-loop
+array-copy-out-number c = omega arith
+
+word-of-requires : tie.Need-word-of-requires Inv-loop μ-loop
+word-of-requires c κs = search needs
+
+mul-put-word : tie.Need-mul-put-word Inv-loop μ-loop
+mul-put-word c = omega arith
+
+put-word-requires : tie.Need-put-word-requires Inv-loop μ-loop
+put-word-requires c κs = omega arith
+
+add-i : tie.Need-add-i Inv-loop μ-loop
+add-i c = omega arith
+
+loop-less : tie.Need-loop-less Inv-loop μ-loop
+loop-less c = omega arith
+
+loop-again : tie.Need-loop-again Inv-loop μ-loop
+loop-again c =
+    let s = c .before .before .before .before .before .before .before .before .before in
+    let l = c .before .before .before .before .before .before .before .loop in
+    let word = c .before .before .before .before .word-of in
+    let given = c .before .before .before .before .before .number .given in
+    let z = getD (s .args .t1) (l .i) (pos 0) in
+    let read : toZ w32 (ofZ w32 z) ≡ z = toZ-ofZ (record { sfits = given }) in
+    let e = c .before .before .put-word .ensures in
+    let step = one-more (s .args .t1) (s .args .place .now) (l .place) (l .i) (omega arith) (omega arith) (l .inv .1) (l .inv .2) in
+    (omega arith, rw e (length-sets (l .place) (4 * l .i) (wordBytes _) ∙ l .inv .1), e ∙ rw (word .ensures, read) step, l .inv .3)
+
+same-length : tie.Need-same-length Inv-loop μ-loop
+same-length c = c .before .loop .inv .1
+
+returns : tie.Need-returns Inv-loop μ-loop
+returns c =
+    let s = c .before .before .before in
+    let l = c .before .loop in
+    let e : l .i ≡ 13 = omega arith in
+    let numbers = s .args .t1 in
+    l .inv .2 ∙ rw (e, take-all 13 numbers (omega arith))
+
+pub put-numbers-spec : {M : Type 1} → statement M
+put-numbers-spec =
+    tie.close
+    (tie.spec
+    Inv-loop
+    μ-loop
+    loop-holds
+    mul-number
+    array-copy-out-number
+    word-of-requires
+    mul-put-word
+    put-word-requires
+    add-i
+    loop-less
+    loop-again
+    same-length
+    returns)

@@ -1,0 +1,2 @@
+-- The call from C: definition, section 9.
+pub mod Words

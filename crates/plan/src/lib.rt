@@ -1,0 +1,48 @@
+// The call from C: a sheet's bytes in, thirteen numbers into a place that is lent, the code back (definition, section 9).
+ghost use mathlib.Core.Path.{_≡_};
+ghost use mathlib.Core.List.{_++_};
+ghost use Prim.Native.Nat.{_+_, _≤_};
+ghost use lib.ListN.{length, drop};
+ghost use lib.Seq.{sets};
+ghost use mir.Syntax.{w32};
+ghost use mir.Val.{ofZ};
+ghost use Rattle.plan.specs.Words.{wordBytes, bytesOfNumbers};
+
+// The numbers of an answer.
+const COUNT: usize = 13;
+
+// The 32 bits of a signed number, in two's complement.
+fn word_of(number: i32) -> u32
+    ensures { λ r. ⌜ r ≡ ofZ w32 number ⌝ }
+{
+    if number < 0 {
+        4294967295 - ((-1 - number) as u32)
+    } else {
+        number as u32
+    }
+}
+
+// The four bytes of a word, most significant first.
+fn put_word(place: &mut [u8], at: usize, word: u32)
+    requires { ⌜ at + 4 ≤ length (now place) ⌝ }
+    ensures { λ _. ⌜ now (place .exit) ≡ sets (now (place .entry)) at (wordBytes word) ⌝ }
+{
+    place[at] = (word / 16777216 % 256) as u8;
+    place[at + 1] = (word / 65536 % 256) as u8;
+    place[at + 2] = (word / 256 % 256) as u8;
+    place[at + 3] = (word % 256) as u8;
+}
+
+// Thirteen numbers into the first 52 bytes.
+fn put_numbers(numbers: [i32; COUNT], place: &mut [u8])
+    requires { ⌜ 52 ≤ length (now place) ⌝ }
+    ensures { λ _. ⌜ now (place .exit) ≡ bytesOfNumbers numbers ++ drop 52 (now (place .entry)) ⌝ }
+{
+    let mut i: usize = 0;
+    while i < COUNT {
+        let number = numbers[i];
+        let word = word_of(number);
+        put_word(place, 4 * i, word);
+        i += 1;
+    }
+}
