@@ -98,7 +98,7 @@ fn put_letter_line(letter: u8, counts: [u64; COUNTS], buffer: &mut [u8], at: usi
 
 // Signed numbers, each behind one space.
 fn put_numbers(numbers: [i32; NUMBERS], buffer: &mut [u8], at: usize) -> usize
-    requires { ⌜ at + 166 ≤ length (now buffer) ⌝ }
+    requires { ⌜ at + 172 ≤ length (now buffer) ⌝ }
     ensures { λ r. ⌜ Put (now (buffer .entry)) at (spaced (map numberText numbers)) (now (buffer .exit)) r × (r ≤ at + 156) ⌝ }
 {
     let mut end = at;
