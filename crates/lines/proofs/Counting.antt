@@ -1,11 +1,11 @@
 -- A count's text, put from its last digit to its first.
 -- The digits that stand already end the text; what is left to put is the text of what is left of the count.
 -- Assumes nothing.
-use mathlib.Core.Path.{_≡_, refl, ap, sym, _∙_}
-use mathlib.Core.List.{List, [], _∷_, _++_, map, map-append, append-assoc, append-nil}
+use mathlib.Core.Path.{_≡_, ap, sym, _∙_}
+use mathlib.Core.List.{List, [], _∷_, _++_, map-append, append-assoc, append-nil}
 use Prim.Native.Nat.{ℕ, suc, _+_, _-_, _/_, _%_, _^_, _≤_, _<_}
 use native.Mathlib.Omega.{arith}
-use lib.ListN.{length, take, drop, set, getD, take-append-drop, length-map, length-append}
+use lib.ListN.{length, take, drop, set, getD, take-append-drop, length-map}
 use lib.Seq.{take-suc, set-at, length-take-le}
 use Rattle.lines.specs.Decimals.{digits, byteOf, countText}
 use Rattle.lines.specs.Lines.{withText, Put}

@@ -1,17 +1,17 @@
 -- The digits of a number: one division at a time, how many there are, and that they are the number in decimal, as nothing else is.
 -- By induction on divisions by ten.
 -- Assumes nothing.
-use mathlib.Core.Path.{_≡_, refl, ap, sym, _∙_}
+use mathlib.Core.Path.{_≡_, refl, ap, _∙_}
 use mathlib.Core.Bool.{Bool, true, false}
 use mathlib.Core.List.{List, [], _∷_, _++_}
 use Prim.Native.Nat.{ℕ, zero, suc, _+_, _*_, _/_, _%_, _^_, _≤_, _<_}
 use native.Mathlib.Omega.{arith}
 use borrow.Author.Tests.{lt-ltb, le-ltb, ltb-true, ltb-false}
 use lib.Dec.{ltb}
-use lib.ListN.{length, getD, length-append}
+use lib.ListN.{length, length-append}
 use lib.Pow.{pow-add}
 use Rattle.laws.specs.Choice.{if_then_else_}
-use Rattle.lines.specs.Decimals.{digitsWithin, digits, valueBehind, valueOf, Each, Decimal}
+use Rattle.lines.specs.Decimals.{digitsWithin, digits}
 
 -- more divisions than are needed change nothing
 steady : (f g n : ℕ) → n ≤ f → n ≤ g → digitsWithin f n ≡ digitsWithin g n

@@ -2,13 +2,11 @@
 -- By induction on divisions by ten; a last digit is a remainder.
 -- Assumes nothing.
 use mathlib.Core.Path.{_≡_, refl, ap, ap₂, subst, sym, _∙_}
-use mathlib.Core.Bool.{Bool, true, false}
-use mathlib.Core.List.{List, [], _∷_, _++_, map}
-use Prim.Native.Nat.{ℕ, zero, suc, _+_, _-_, _*_, _/_, _%_, _≤_, _<_}
+use mathlib.Core.List.{List, [], _∷_, _++_}
+use Prim.Native.Nat.{ℕ, zero, suc, _+_, _*_, _/_, _%_, _≤_, _<_}
 use native.Mathlib.Omega.{arith}
-use lib.IntN.{ℤ, pos, negsuc}
 use lib.ListN.{length, getD, length-append, List·getD-append}
-use Rattle.lines.specs.Decimals.{digits, valueBehind, valueOf, Each, Decimal, minus, byteOf, countText, numberText}
+use Rattle.lines.specs.Decimals.{digits, valueBehind, valueOf, Each, Decimal}
 use Rattle.lines.proofs.Eaches.{each-append, each-second, each-first}
 use Rattle.lines.proofs.Digits.{digits-one, digits-more, by-tens, places-some}
 

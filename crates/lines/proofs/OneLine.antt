@@ -3,11 +3,11 @@
 -- Assumes nothing.
 use mathlib.Core.Path.{_≡_, refl, ap, ap₂, sym, _∙_}
 use mathlib.Core.List.{List, [], _∷_, _++_, map, append-assoc}
-use Prim.Native.Nat.{ℕ, zero, suc, _+_, _≤_, _<_}
+use Prim.Native.Nat.{ℕ, suc, _+_, _≤_, _<_}
 use native.Mathlib.Omega.{arith}
 use lib.IntN.{ℤ, pos, negsuc}
 use lib.ListN.{getD}
-use Rattle.lines.specs.Decimals.{Each, minus, countText, numberText}
+use Rattle.lines.specs.Decimals.{Each, countText, numberText}
 use Rattle.lines.specs.Lines.{space, newline, letterL, letterR, spaced, lineText, levelsLine, sheetLine, routeLine}
 use Rattle.lines.proofs.Eaches.{each-implied}
 use Rattle.lines.proofs.Texts.{DigitByte, count-bytes, count-text-one, number-text-one, tail}

@@ -1,6 +1,6 @@
 -- Whether a line has room, and what its putting comes to either way.
 -- Assumes nothing.
-use mathlib.Core.Path.{_≡_, refl, sym}
+use mathlib.Core.Path.{_≡_, refl}
 use mathlib.Core.Bool.{Bool, true, false}
 use mathlib.Core.List.{List}
 use Prim.Native.Nat.{ℕ, _+_, _-_, _≤_, _<_}
@@ -8,7 +8,7 @@ use native.Mathlib.Omega.{arith}
 use borrow.Author.Tests.{le-leb, lt-leb, leb-true, leb-false}
 use lib.Dec.{leb}
 use lib.ListN.{length}
-use Rattle.lines.specs.Lines.{room, placeAfter, bufferAfter, withText, Put}
+use Rattle.lines.specs.Lines.{room, placeAfter, bufferAfter, Put}
 
 -- the test that no sum can wrap
 pub room-from : (at bytes : ℕ) → room ≤ bytes → leb at (bytes - room) ≡ leb (at + room) bytes

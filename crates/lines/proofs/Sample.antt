@@ -2,7 +2,6 @@
 -- Assumes nothing.
 use mathlib.Core.Path.{_≡_, refl}
 use mathlib.Core.List.{List, [], _∷_, map}
-use Prim.Native.Nat.{ℕ}
 use lib.IntN.{ℤ, pos}
 use Rattle.lines.specs.Decimals.{digitsWithin, digits, countText, numberText}
 use Rattle.lines.specs.Lines.{spaced, levelsLine, sheetLine, routeLine}

@@ -1,8 +1,8 @@
 -- No line is longer than its room: a count has at most twenty digits and a number at most eleven bytes.
 -- Assumes nothing.
-use mathlib.Core.Path.{_≡_, refl, ap, sym, _∙_}
+use mathlib.Core.Path.{_≡_, ap, _∙_}
 use mathlib.Core.List.{List, [], _∷_, _++_, map}
-use Prim.Native.Nat.{ℕ, zero, suc, _+_, _*_, _^_, _≤_, _<_}
+use Prim.Native.Nat.{ℕ, suc, _+_, _*_, _^_, _≤_, _<_}
 use native.Mathlib.Nat.{mul-suc}
 use native.Mathlib.Omega.{arith}
 use lib.IntN.{ℤ, pos, negsuc}
@@ -10,7 +10,7 @@ use lib.ListN.{length, length-append, length-map}
 use mir.Syntax.{w32}
 use mir.Val.{SFits}
 use Rattle.lines.specs.Decimals.{Each, countText, numberText}
-use Rattle.lines.specs.Lines.{newline, letterL, letterR, spaced, lineText, levelsLine, sheetLine, routeLine, room}
+use Rattle.lines.specs.Lines.{newline, letterL, letterR, spaced, lineText, levelsLine, sheetLine, routeLine}
 use Rattle.lines.proofs.Eaches.{each-map}
 use Rattle.lines.proofs.Counting.{count-at-most}
 use Rattle.lines.proofs.Signs.{number-at-most}

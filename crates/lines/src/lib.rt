@@ -1,12 +1,12 @@
 // The lines of the printing program: their text in decimal, put into a lent buffer.
 ghost use mathlib.Core.Path.{_≡_};
-ghost use mathlib.Core.List.{[], _∷_, _++_, map};
-ghost use Prim.Native.Nat.{_+_, _*_, _≤_, _<_};
+ghost use mathlib.Core.List.{[], _∷_, map};
+ghost use Prim.Native.Nat.{_+_, _≤_, _<_};
 ghost use lib.IntN.{natAbs};
 ghost use lib.ListN.{length};
 ghost use Rattle.laws.specs.Choice.{_≤ᵇ_};
 ghost use Rattle.lines.specs.Decimals.{digits, countText, numberText};
-ghost use Rattle.lines.specs.Lines.{room, newline, spaced, lineText, sheetLine, levelsLine, routeLine, placeAfter, bufferAfter, Put};
+ghost use Rattle.lines.specs.Lines.{room, spaced, lineText, sheetLine, levelsLine, routeLine, placeAfter, bufferAfter, Put};
 
 // The room that a line is given: the longest has 177 bytes.
 const ROOM: usize = 192;

@@ -7,8 +7,6 @@ use Rattle.lines.specs.Lines.{room}
 use Rattle.lines.proofs.Rooms.{room-from}
 use Rattle.lines.proofs.has_room.Statement.{statement}
 use Rattle.lines.proofs.has_room.Tie as tie
-use Rattle.lines.proofs.has_room.Reads as reads
-use Rattle.lines.proofs.has_room.Lts as lts
 
 returns : tie.Need-returns
 returns c = rw (lt-leb (c .before .args .at + room) (c .before .args .bytes) (omega arith))

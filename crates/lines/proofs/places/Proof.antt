@@ -8,8 +8,6 @@ use Rattle.lines.specs.Decimals.{digits}
 use Rattle.lines.proofs.Digits.{places-one, places-two, places-three, places-four, places-four-more, places-at-most}
 use Rattle.lines.proofs.places.Statement.{statement}
 use Rattle.lines.proofs.places.Tie as tie
-use Rattle.lines.proofs.places.Reads as reads
-use Rattle.lines.proofs.places.Lts as lts
 
 abbrev Inv-loop : tie.InvT-loop
 Inv-loop count places₀ rest₀ places rest = (length (digits count) ≡ places + length (digits rest)) × (length (digits count) ≤ 20)

@@ -1,18 +1,15 @@
 -- `lines::put_count` meets its contract. The loop's invariant: the digits from place on stand, and what is left of the count is still to be put.
 -- The measure is what is left. Assumes nothing.
-use Prim.Native.Nat.{_+_, _≤_, _<_}
-use mathlib.Core.Path.{_≡_, refl, _∙_}
+use Prim.Native.Nat.{_+_, _≤_}
+use mathlib.Core.Path.{_≡_, refl}
 use native.Mathlib.Omega.{arith}
 use borrow.Author.Needs.{needs}
 use lib.ListN.{length, length-set}
 use Rattle.lines.specs.Decimals.{digits}
-use Rattle.lines.proofs.Digits.{places-at-most, places-some, places-more}
+use Rattle.lines.proofs.Digits.{places-at-most, places-some}
 use Rattle.lines.proofs.Counting.{Standing, none-stands, one-more-stands, all-stands}
 use Rattle.lines.proofs.put_count.Statement.{statement}
 use Rattle.lines.proofs.put_count.Tie as tie
-use Rattle.lines.proofs.put_count.Reads as reads
-use Rattle.lines.proofs.put_count.Lts as lts
-use Rattle.lines.proofs.places.Reads as places-reads
 
 abbrev Inv-loop : tie.InvT-loop
 Inv-loop count buffer₀ at end place₀ rest₀ buffer place rest =

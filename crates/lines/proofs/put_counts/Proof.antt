@@ -9,9 +9,6 @@ use Rattle.lines.specs.Decimals.{countText}
 use Rattle.lines.proofs.Spacing.{Words, no-words, next-word, all-words}
 use Rattle.lines.proofs.put_counts.Statement.{statement}
 use Rattle.lines.proofs.put_counts.Tie as tie
-use Rattle.lines.proofs.put_counts.Reads as reads
-use Rattle.lines.proofs.put_counts.Lts as lts
-use Rattle.lines.proofs.put_count.Reads as put-count-reads
 
 abbrev Inv-loop : tie.InvT-loop
 Inv-loop buffer₀ at counts end₀ i₀ buffer end i =

@@ -6,10 +6,6 @@ use Rattle.lines.proofs.Placing.{put-on, then-byte}
 use borrow.Author.Needs.{needs}
 use Rattle.lines.proofs.put_index_line.Statement.{statement}
 use Rattle.lines.proofs.put_index_line.Tie as tie
-use Rattle.lines.proofs.put_index_line.Reads as reads
-use Rattle.lines.proofs.put_index_line.Lts as lts
-use Rattle.lines.proofs.put_count.Reads as put-count-reads
-use Rattle.lines.proofs.put_numbers.Reads as put-numbers-reads
 
 put-count-requires : tie.Need-put-count-requires
 put-count-requires c κs = search needs

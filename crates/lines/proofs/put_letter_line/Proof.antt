@@ -6,9 +6,6 @@ use borrow.Author.Needs.{needs}
 use lib.ListN.{length-set}
 use Rattle.lines.proofs.put_letter_line.Statement.{statement}
 use Rattle.lines.proofs.put_letter_line.Tie as tie
-use Rattle.lines.proofs.put_letter_line.Reads as reads
-use Rattle.lines.proofs.put_letter_line.Lts as lts
-use Rattle.lines.proofs.put_counts.Reads as put-counts-reads
 
 slice-write-buffer : tie.Need-slice-write-buffer
 slice-write-buffer c = search needs

@@ -1,7 +1,7 @@
 -- `lines::put_number` meets its contract: a way out for each sign.
 -- Assumes nothing.
 use mathlib.Core.Path.{_≡_, ap, _∙_}
-use lib.IntN.{ℤ, pos, natAbs}
+use lib.IntN.{natAbs}
 use mir.Syntax.{w32}
 use mir.Val.{toZ, ofZ}
 use mir.Facts.{toZ-ofZ}
@@ -11,10 +11,6 @@ use borrow.Author.Needs.{needs}
 use lib.ListN.{length-set}
 use Rattle.lines.proofs.put_number.Statement.{statement}
 use Rattle.lines.proofs.put_number.Tie as tie
-use Rattle.lines.proofs.put_number.Reads as reads
-use Rattle.lines.proofs.put_number.Lts as lts
-use Rattle.lines.proofs.magnitude.Reads as magnitude-reads
-use Rattle.lines.proofs.put_count.Reads as put-count-reads
 
 -- the number as it is read
 read-back : (s : tie.Start) → toZ w32 (ofZ w32 (s .args .number)) ≡ s .args .number

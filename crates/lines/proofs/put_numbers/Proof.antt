@@ -13,9 +13,6 @@ use Rattle.lines.specs.Decimals.{numberText}
 use Rattle.lines.proofs.Spacing.{Words, no-words, next-word, all-words}
 use Rattle.lines.proofs.put_numbers.Statement.{statement}
 use Rattle.lines.proofs.put_numbers.Tie as tie
-use Rattle.lines.proofs.put_numbers.Reads as reads
-use Rattle.lines.proofs.put_numbers.Lts as lts
-use Rattle.lines.proofs.put_number.Reads as put-number-reads
 
 abbrev Inv-loop : tie.InvT-loop
 Inv-loop buffer₀ at numbers end₀ i₀ buffer end i =

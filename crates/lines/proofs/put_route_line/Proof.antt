@@ -1,16 +1,12 @@
 -- `lines::put_route_line` meets its contract: with room and without.
 -- Assumes nothing.
-use mathlib.Core.Path.{_≡_, sym, _∙_}
+use mathlib.Core.Path.{sym, _∙_}
 use borrow.Author.Tests.{not-true, not-false, leb-true}
 use Rattle.lines.specs.Lines.{routeLine}
 use Rattle.lines.proofs.Rooms.{no-room, with-room}
 use borrow.Author.Needs.{needs}
 use Rattle.lines.proofs.put_route_line.Statement.{statement}
 use Rattle.lines.proofs.put_route_line.Tie as tie
-use Rattle.lines.proofs.put_route_line.Reads as reads
-use Rattle.lines.proofs.put_route_line.Lts as lts
-use Rattle.lines.proofs.has_room.Reads as has-room-reads
-use Rattle.lines.proofs.put_letter_line.Reads as put-letter-line-reads
 
 has-room-requires : tie.Need-has-room-requires
 has-room-requires c κs = search needs
