@@ -1,0 +1,134 @@
+-- What the lines promise, in the definition's words (the printing program). Each proof stands where it is cited.
+-- Assumes nothing.
+use mathlib.Core.Path.{_≡_}
+use mathlib.Core.List.{List, [], _∷_, List·Memᴰ}
+use mathlib.Core.Logic.{_↔_}
+use Prim.Native.Nat.{ℕ, _+_, _^_, _≤_, _<_}
+use lib.IntN.{ℤ, pos}
+use lib.ListN.{length, take, drop}
+use lib.Signed.{_<ℤ_}
+use mir.Syntax.{w32}
+use mir.Val.{SFits}
+use Rattle.laws.proofs.Unique.{one-answer}
+use Rattle.lines.specs.Decimals.{digits, valueOf, Each, Decimal, minus, countText, numberText}
+use Rattle.lines.specs.Lines.{levelsLine, sheetLine, routeLine, room, placeAfter, bufferAfter}
+use Rattle.lines.proofs.Meaning.{digits-value, digits-decimal, decimal-only}
+use Rattle.lines.proofs.Texts.{count-text-one, number-text-one, minus-negative}
+use Rattle.lines.proofs.OneLine.{sheet-line-one, levels-line-one, route-line-one}
+use Rattle.lines.proofs.Sizes.{sheet-line-size, levels-line-size, route-line-size}
+use Rattle.lines.proofs.Keeping.{same-place-exactly, buffer-no-room, before-kept, line-stands, after-kept, length-kept, place-within}
+use Rattle.lines.proofs.Sample.{numbersS, first-line, line-s, last-line}
+
+-- The digits of a number mean it.
+pub digits-mean : (n : ℕ) → valueOf (digits n) ≡ n
+digits-mean = digits-value
+
+-- They are digits from 0 to 9 with no leading zero but for 0 itself, and no others are that and mean the number.
+pub in-decimal : (n : ℕ) → Decimal (digits n) n
+in-decimal = digits-decimal
+
+pub one-decimal : (n : ℕ) (ds : List ℕ) → Decimal ds n → ds ≡ digits n
+one-decimal = decimal-only
+
+-- Two numbers with the same text are equal.
+pub count-of-text : (m n : ℕ) → countText m ≡ countText n → m ≡ n
+count-of-text = count-text-one
+
+pub number-of-text : (y z : ℤ) → numberText y ≡ numberText z → y ≡ z
+number-of-text = number-text-one
+
+-- A minus stands in a number's text exactly when it is negative.
+pub minus-exactly : (z : ℤ) → List·Memᴰ minus (numberText z) ↔ (z <ℤ pos 0)
+minus-exactly = minus-negative
+
+-- Two lines with the same text say the same.
+pub sheet-of-line : (i j : ℕ) (numbers others : List ℤ) → sheetLine i numbers ≡ sheetLine j others → (i ≡ j) × (numbers ≡ others)
+sheet-of-line = sheet-line-one
+
+pub levels-of-line : (added missing refused a m r : ℕ) → levelsLine added missing refused ≡ levelsLine a m r
+    → (added ≡ a) × (missing ≡ m) × (refused ≡ r)
+levels-of-line = levels-line-one
+
+pub route-of-line : (sheets answered class s a c : ℕ) → routeLine sheets answered class ≡ routeLine s a c
+    → (sheets ≡ s) × (answered ≡ a) × (class ≡ c)
+route-of-line = route-line-one
+
+-- No line is longer than its room of 192 bytes: a sheet's has at most 177, the first and the last at most 65.
+pub sheet-line-fits : (index : ℕ) (numbers : List ℤ) → index < 2 ^ 64 → length numbers ≡ 13 → Each (SFits w32) numbers
+    → length (sheetLine index numbers) ≤ 177
+sheet-line-fits = sheet-line-size
+
+pub levels-line-fits : (added missing refused : ℕ) → added < 2 ^ 64 → missing < 2 ^ 64 → refused < 2 ^ 64
+    → length (levelsLine added missing refused) ≤ 65
+levels-line-fits = levels-line-size
+
+pub route-line-fits : (sheets answered class : ℕ) → sheets < 2 ^ 64 → answered < 2 ^ 64 → class < 2 ^ 64
+    → length (routeLine sheets answered class) ≤ 65
+route-line-fits = route-line-size
+
+-- The same place is answered exactly when fewer than 192 bytes are left from it, and then nothing is written.
+pub no-room-exactly : (line : List ℕ) (at : ℕ) (buffer : List ℕ) → 0 < length line → (placeAfter line at buffer ≡ at) ↔ (length buffer < at + room)
+no-room-exactly = same-place-exactly
+
+pub no-room-changes-nothing : (line : List ℕ) (at : ℕ) (buffer : List ℕ) → length buffer < at + room → bufferAfter line at buffer ≡ buffer
+no-room-changes-nothing = buffer-no-room
+
+-- Otherwise the line stands at its place.
+pub line-at-its-place : (line : List ℕ) (at : ℕ) (buffer : List ℕ) → length line ≤ room → at + room ≤ length buffer
+    → take (length line) (drop at (bufferAfter line at buffer)) ≡ line
+line-at-its-place = line-stands
+
+-- Every byte before the line and after it stays as it was, and none is added or lost.
+pub before-untouched : (line : List ℕ) (at : ℕ) (buffer : List ℕ) → length line ≤ room → take at (bufferAfter line at buffer) ≡ take at buffer
+before-untouched = before-kept
+
+pub after-untouched : (line : List ℕ) (at : ℕ) (buffer : List ℕ) → length line ≤ room
+    → drop (placeAfter line at buffer) (bufferAfter line at buffer) ≡ drop (placeAfter line at buffer) buffer
+after-untouched = after-kept
+
+pub as-long-as-before : (line : List ℕ) (at : ℕ) (buffer : List ℕ) → length line ≤ room → length (bufferAfter line at buffer) ≡ length buffer
+as-long-as-before = length-kept
+
+-- The place after a line lies in the buffer.
+pub next-place-within : (line : List ℕ) (at : ℕ) (buffer : List ℕ) → length line ≤ room → at ≤ length buffer
+    → placeAfter line at buffer ≤ length buffer
+next-place-within = place-within
+
+-- One answered place and one later content of the buffer, for each of the three calls.
+pub sheet-place-unique : (index : ℕ) (numbers : List ℤ) (at : ℕ) (buffer : List ℕ) (r s : ℕ)
+    → r ≡ placeAfter (sheetLine index numbers) at buffer → s ≡ placeAfter (sheetLine index numbers) at buffer → r ≡ s
+sheet-place-unique index numbers at buffer = one-answer
+
+pub sheet-buffer-unique : (index : ℕ) (numbers : List ℤ) (at : ℕ) (buffer now later : List ℕ)
+    → now ≡ bufferAfter (sheetLine index numbers) at buffer → later ≡ bufferAfter (sheetLine index numbers) at buffer → now ≡ later
+sheet-buffer-unique index numbers at buffer = one-answer
+
+pub levels-place-unique : (added missing refused at : ℕ) (buffer : List ℕ) (r s : ℕ)
+    → r ≡ placeAfter (levelsLine added missing refused) at buffer → s ≡ placeAfter (levelsLine added missing refused) at buffer → r ≡ s
+levels-place-unique added missing refused at buffer = one-answer
+
+pub levels-buffer-unique : (added missing refused at : ℕ) (buffer now later : List ℕ)
+    → now ≡ bufferAfter (levelsLine added missing refused) at buffer → later ≡ bufferAfter (levelsLine added missing refused) at buffer
+    → now ≡ later
+levels-buffer-unique added missing refused at buffer = one-answer
+
+pub route-place-unique : (sheets answered class at : ℕ) (buffer : List ℕ) (r s : ℕ)
+    → r ≡ placeAfter (routeLine sheets answered class) at buffer → s ≡ placeAfter (routeLine sheets answered class) at buffer → r ≡ s
+route-place-unique sheets answered class at buffer = one-answer
+
+pub route-buffer-unique : (sheets answered class at : ℕ) (buffer now later : List ℕ)
+    → now ≡ bufferAfter (routeLine sheets answered class) at buffer → later ≡ bufferAfter (routeLine sheets answered class) at buffer
+    → now ≡ later
+route-buffer-unique sheets answered class at buffer = one-answer
+
+-- The lines of the definition's sample: L 0 0 0, the line of sheet S, R 1 1 0.
+pub sample-levels : levelsLine 0 0 0 ≡ 76 ∷ 32 ∷ 48 ∷ 32 ∷ 48 ∷ 32 ∷ 48 ∷ 10 ∷ []
+sample-levels = first-line
+
+pub sample-sheet : sheetLine 1 numbersS
+    ≡ 49 ∷ 32 ∷ 48 ∷ 32 ∷ 48 ∷ 32 ∷ 48 ∷ 32 ∷ 49 ∷ 32 ∷ 49 ∷ 49 ∷ 55 ∷ 48 ∷ 32 ∷ 49 ∷ 49 ∷ 55 ∷ 48 ∷ 32 ∷ 49 ∷ 49 ∷ 55 ∷ 48
+    ∷ 32 ∷ 49 ∷ 52 ∷ 52 ∷ 48 ∷ 48 ∷ 32 ∷ 48 ∷ 32 ∷ 50 ∷ 32 ∷ 48 ∷ 32 ∷ 48 ∷ 32 ∷ 49 ∷ 10 ∷ []
+sample-sheet = line-s
+
+pub sample-route : routeLine 1 1 0 ≡ 82 ∷ 32 ∷ 49 ∷ 32 ∷ 49 ∷ 32 ∷ 48 ∷ 10 ∷ []
+sample-route = last-line

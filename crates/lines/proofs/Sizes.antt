@@ -1,0 +1,60 @@
+-- No line is longer than its room: a count has at most twenty digits and a number at most eleven bytes.
+-- Assumes nothing.
+use mathlib.Core.Path.{_≡_, ap, _∙_}
+use mathlib.Core.List.{List, [], _∷_, _++_, map}
+use Prim.Native.Nat.{ℕ, suc, _+_, _*_, _^_, _≤_, _<_}
+use native.Mathlib.Nat.{mul-suc}
+use native.Mathlib.Omega.{arith}
+use lib.IntN.{ℤ, pos, negsuc}
+use lib.ListN.{length, length-append, length-map}
+use mir.Syntax.{w32}
+use mir.Val.{SFits}
+use Rattle.lines.specs.Decimals.{Each, countText, numberText}
+use Rattle.lines.specs.Lines.{newline, letterL, letterR, spaced, lineText, levelsLine, sheetLine, routeLine}
+use Rattle.lines.proofs.Eaches.{each-map}
+use Rattle.lines.proofs.Counting.{count-at-most}
+use Rattle.lines.proofs.Signs.{number-at-most}
+
+spaced-at-most : (k : ℕ) (words : List (List ℕ)) → Each (λ (word : List ℕ). length word ≤ k) words → length (spaced words) ≤ (k + 1) * length words
+unfolding spaced
+spaced-at-most k [] e = omega arith
+spaced-at-most k (word ∷ words) e =
+    let rest = spaced-at-most k words (e .1) in
+    let one = e .0 in
+    let n = length-append word (spaced words) in
+    let p : (k + 1) * suc (length words) ≡ (k + 1) * length words + (k + 1) = mul-suc (k + 1) (length words) in
+    omega arith
+
+count-at-most-20 : (n : ℕ) → n < 2 ^ 64 → length (countText n) ≤ 20
+count-at-most-20 n h = count-at-most 19 n (omega arith)
+
+number-at-most-11 : (z : ℤ) → SFits w32 z → length (numberText z) ≤ 11
+unfolding numberText
+number-at-most-11 (pos n) f = omega (arith, number-at-most (pos n) f)
+number-at-most-11 (negsuc n) f = omega (arith, number-at-most (negsuc n) f)
+
+line-length : (first : List ℕ) (others : List (List ℕ)) → length (lineText first others) ≡ length first + length (spaced others) + 1
+line-length first others =
+    length-append (first ++ spaced others) (newline ∷ []) ∙ ap (λ (n : ℕ). n + 1) (length-append first (spaced others))
+
+pub sheet-line-size : (index : ℕ) (numbers : List ℤ) → index < 2 ^ 64 → length numbers ≡ 13 → Each (SFits w32) numbers
+    → length (sheetLine index numbers) ≤ 177
+unfolding sheetLine
+sheet-line-size index numbers h n fit =
+    let words = map numberText numbers in
+    let s = spaced-at-most 11 words (each-map (SFits w32) (λ (w : List ℕ). length w ≤ 11) numberText number-at-most-11 numbers fit) in
+    let k : length words ≡ 13 = length-map numbers numberText ∙ n in
+    let t : length (spaced words) ≤ 12 * 13 = rw k at s in
+    omega (arith, line-length (countText index) words, count-at-most-20 index h)
+
+module _ (a b c : ℕ) (fit-a : a < 2 ^ 64) (fit-b : b < 2 ^ 64) (fit-c : c < 2 ^ 64) where
+  three : length (spaced (map countText (a ∷ b ∷ c ∷ []))) ≤ 21 * 3
+  three = spaced-at-most 20 (map countText (a ∷ b ∷ c ∷ [])) (count-at-most-20 a fit-a, (count-at-most-20 b fit-b, (count-at-most-20 c fit-c, tt)))
+
+  pub levels-line-size : length (levelsLine a b c) ≤ 65
+  unfolding levelsLine
+  levels-line-size = omega (arith, line-length (letterL ∷ []) (map countText (a ∷ b ∷ c ∷ [])), three)
+
+  pub route-line-size : length (routeLine a b c) ≤ 65
+  unfolding routeLine
+  route-line-size = omega (arith, line-length (letterR ∷ []) (map countText (a ∷ b ∷ c ∷ [])), three)

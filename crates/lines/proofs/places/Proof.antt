@@ -1,0 +1,71 @@
+-- `lines::places` meets its contract. The loop's invariant: the count has the places passed and those of what is left.
+-- Assumes nothing.
+use Prim.Native.Nat.{_+_, _≤_}
+use mathlib.Core.Path.{_≡_}
+use native.Mathlib.Omega.{arith}
+use lib.ListN.{length}
+use Rattle.lines.specs.Decimals.{digits}
+use Rattle.lines.proofs.Digits.{places-one, places-two, places-three, places-four, places-four-more, places-at-most}
+use Rattle.lines.proofs.places.Statement.{statement}
+use Rattle.lines.proofs.places.Tie as tie
+
+abbrev Inv-loop : tie.InvT-loop
+Inv-loop count places₀ rest₀ places rest = (length (digits count) ≡ places + length (digits rest)) × (length (digits count) ≤ 20)
+
+abbrev μ-loop : tie.MeasureT-loop
+μ-loop count places₀ rest₀ places rest = rest
+
+loop-holds : tie.Need-loop-holds Inv-loop μ-loop
+loop-holds c = (omega arith, places-at-most 19 (c .args .count) (omega arith))
+
+add-places : tie.Need-add-places Inv-loop μ-loop
+add-places c = omega arith
+
+loop-less : tie.Need-loop-less Inv-loop μ-loop
+loop-less c = omega arith
+
+loop-again : tie.Need-loop-again Inv-loop μ-loop
+loop-again c = (omega (arith, places-four-more (c .before .loop .rest) (omega arith)), c .before .loop .inv .1)
+
+add-result : tie.Need-add-result Inv-loop μ-loop
+add-result c = omega arith
+
+returns : tie.Need-returns Inv-loop μ-loop
+returns c = omega (arith, places-one (c .before .before .loop .rest) (omega arith))
+
+add-result-2 : tie.Need-add-result-2 Inv-loop μ-loop
+add-result-2 c = omega arith
+
+returns-2 : tie.Need-returns-2 Inv-loop μ-loop
+returns-2 c = omega (arith, places-two (c .before .before .before .loop .rest) (omega arith) (omega arith))
+
+add-result-3 : tie.Need-add-result-3 Inv-loop μ-loop
+add-result-3 c = omega arith
+
+returns-3 : tie.Need-returns-3 Inv-loop μ-loop
+returns-3 c = omega (arith, places-three (c .before .before .before .before .loop .rest) (omega arith) (omega arith))
+
+add-result-4 : tie.Need-add-result-4 Inv-loop μ-loop
+add-result-4 c = omega arith
+
+returns-4 : tie.Need-returns-4 Inv-loop μ-loop
+returns-4 c = omega (arith, places-four (c .before .before .before .before .loop .rest) (omega arith) (omega arith))
+
+pub places-spec : {M : Type 1} → statement M
+places-spec =
+    tie.close
+    (tie.spec
+    Inv-loop
+    μ-loop
+    loop-holds
+    add-places
+    loop-less
+    loop-again
+    add-result
+    returns
+    add-result-2
+    returns-2
+    add-result-3
+    returns-3
+    add-result-4
+    returns-4)

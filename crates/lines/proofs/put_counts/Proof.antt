@@ -1,0 +1,83 @@
+-- `lines::put_counts` meets its contract. The loop's invariant: the counts passed stand, each behind one space.
+-- The measure is the counts that are left. Assumes nothing.
+use Prim.Native.Nat.{_+_, _*_, _-_, _≤_}
+use mathlib.Core.Path.{_≡_, refl}
+use native.Mathlib.Omega.{arith}
+use borrow.Author.Needs.{needs}
+use lib.ListN.{length, length-set}
+use Rattle.lines.specs.Decimals.{countText}
+use Rattle.lines.proofs.Spacing.{Words, no-words, next-word, all-words}
+use Rattle.lines.proofs.put_counts.Statement.{statement}
+use Rattle.lines.proofs.put_counts.Tie as tie
+
+abbrev Inv-loop : tie.InvT-loop
+Inv-loop buffer₀ at counts end₀ i₀ buffer end i =
+    (i ≤ 3) × (length counts ≡ 3) × (length buffer ≡ length buffer₀) × (end ≤ at + 21 * i) × Words countText counts buffer₀ at i buffer end
+
+abbrev μ-loop : tie.MeasureT-loop
+μ-loop buffer₀ at counts end₀ i₀ buffer end i = 3 - i
+
+loop-holds : tie.Need-loop-holds Inv-loop μ-loop
+loop-holds c =
+    let a = c .before .args in
+    (omega arith, search needs, refl, omega arith, no-words countText (a .t1) (a .buffer .now) (a .at))
+
+slice-write-buffer : tie.Need-slice-write-buffer Inv-loop μ-loop
+slice-write-buffer c = omega arith
+
+mul-put-count : tie.Need-mul-put-count Inv-loop μ-loop
+mul-put-count c = omega arith
+
+array-read-put-count : tie.Need-array-read-put-count Inv-loop μ-loop
+array-read-put-count c = omega arith
+
+add-put-count : tie.Need-add-put-count Inv-loop μ-loop
+add-put-count c = omega arith
+
+put-count-requires : tie.Need-put-count-requires Inv-loop μ-loop
+put-count-requires c κs = simp length-set (omega arith)
+
+add-i : tie.Need-add-i Inv-loop μ-loop
+add-i c = omega arith
+
+loop-less : tie.Need-loop-less Inv-loop μ-loop
+loop-less c = omega arith
+
+loop-again : tie.Need-loop-again Inv-loop μ-loop
+loop-again c =
+    let a = c .before .before .before .before .before .before .before .args in
+    let l = c .before .before .before .before .before .loop in
+    let p = c .before .before .put-count in (
+      omega arith,
+      l .inv .1,
+      omega (arith, length-set (l .buffer) (l .end) 32),
+      omega arith,
+      next-word countText (a .t1) (a .buffer .now) (a .at) (l .i) 0 (l .buffer) _ (l .end) _ (omega arith) (omega arith) (l .inv .4) (p .ensures .0),
+    )
+
+same-length : tie.Need-same-length Inv-loop μ-loop
+same-length c = c .before .loop .inv .2
+
+returns : tie.Need-returns Inv-loop μ-loop
+returns c =
+    let a = c .before .before .before .args in
+    let l = c .before .loop in
+    (all-words countText (a .t1) (a .buffer .now) (a .at) (l .i) (l .buffer) (l .end) (omega arith) (l .inv .4), omega arith)
+
+pub put-counts-spec : {M : Type 1} → statement M
+put-counts-spec =
+    tie.close
+    (tie.spec
+    Inv-loop
+    μ-loop
+    loop-holds
+    slice-write-buffer
+    mul-put-count
+    array-read-put-count
+    add-put-count
+    put-count-requires
+    add-i
+    loop-less
+    loop-again
+    same-length
+    returns)

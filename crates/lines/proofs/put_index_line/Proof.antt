@@ -1,0 +1,42 @@
+-- `lines::put_index_line` meets its contract: the index, the numbers behind it, the newline after them.
+-- Assumes nothing.
+use native.Mathlib.Omega.{arith}
+use lib.ListN.{length-set}
+use Rattle.lines.proofs.Placing.{put-on, then-byte}
+use borrow.Author.Needs.{needs}
+use Rattle.lines.proofs.put_index_line.Statement.{statement}
+use Rattle.lines.proofs.put_index_line.Tie as tie
+
+put-count-requires : tie.Need-put-count-requires
+put-count-requires c κs = search needs
+
+put-numbers-requires : tie.Need-put-numbers-requires
+put-numbers-requires c κs = search needs
+
+slice-write-buffer : tie.Need-slice-write-buffer
+slice-write-buffer c = search needs
+
+add-result : tie.Need-add-result
+add-result c = search needs
+
+same-length : tie.Need-same-length
+same-length c = simp length-set (omega arith)
+
+returns : tie.Need-returns
+returns c =
+    let a = c .before .before .before .before .before .before .before .before .before .args in
+    let index = c .before .before .before .before .before .before .put-count in
+    let numbers = c .before .before .put-numbers in
+    then-byte (a .buffer .now) (a .at) _ _ (numbers .result) 10 (omega arith)
+    (put-on (a .buffer .now) (a .at) _ _ _ _ (index .result) (numbers .result) (omega arith) (index .ensures .0) (numbers .ensures .0))
+
+pub put-index-line-spec : {M : Type 1} → statement M
+put-index-line-spec =
+    tie.close
+    (tie.spec
+    put-count-requires
+    put-numbers-requires
+    slice-write-buffer
+    add-result
+    same-length
+    returns)

@@ -1,0 +1,70 @@
+-- `lines::put_number` meets its contract: a way out for each sign.
+-- Assumes nothing.
+use mathlib.Core.Path.{_≡_, ap, _∙_}
+use lib.IntN.{natAbs}
+use mir.Syntax.{w32}
+use mir.Val.{toZ, ofZ}
+use mir.Facts.{toZ-ofZ}
+use Rattle.lines.proofs.Signs.{put-negative, put-plain}
+use native.Mathlib.Omega.{arith}
+use borrow.Author.Needs.{needs}
+use lib.ListN.{length-set}
+use Rattle.lines.proofs.put_number.Statement.{statement}
+use Rattle.lines.proofs.put_number.Tie as tie
+
+-- the number as it is read
+read-back : (s : tie.Start) → toZ w32 (ofZ w32 (s .args .number)) ≡ s .args .number
+read-back s = toZ-ofZ (s .fits .number)
+
+slice-write-buffer : tie.Need-slice-write-buffer
+slice-write-buffer c = search needs
+
+magnitude-requires : tie.Need-magnitude-requires
+magnitude-requires c κs = search needs
+
+add-put-count : tie.Need-add-put-count
+add-put-count c = search needs
+
+put-count-requires : tie.Need-put-count-requires
+put-count-requires c κs = simp length-set (omega arith)
+
+same-length : tie.Need-same-length
+same-length c = omega (arith, length-set (c .before .before .before .before .before .before .before .args .buffer .now) (c .before .before .before .before .before .before .before .args .at) 45)
+
+returns : tie.Need-returns
+returns c =
+    let s = c .before .before .before .before .before .before .before in
+    let m : c .before .before .before .before .magnitude .result ≡ natAbs (s .args .number) = c .before .before .before .before .magnitude .ensures ∙ ap natAbs (read-back s) in
+    put-negative (s .args .number) (s .fits .number) (s .args .buffer .now) (s .args .at) _ _
+    (rw (read-back s) at (c .before .before .before .before .before .if1 .taken)) (omega arith) (rw m at (c .before .before .put-count .ensures .0))
+
+magnitude-requires-2 : tie.Need-magnitude-requires-2
+magnitude-requires-2 c κs = search needs
+
+put-count-requires-2 : tie.Need-put-count-requires-2
+put-count-requires-2 c κs = search needs
+
+same-length-2 : tie.Need-same-length-2
+same-length-2 c = search needs
+
+returns-2 : tie.Need-returns-2
+returns-2 c =
+    let s = c .before .before .before .before .before .before .before in
+    let m : c .before .before .before .before .magnitude2 .result ≡ natAbs (s .args .number) = c .before .before .before .before .magnitude2 .ensures ∙ ap natAbs (read-back s) in
+    put-plain (s .args .number) (s .fits .number) (s .args .buffer .now) (s .args .at) _ _
+    (rw (read-back s) at (c .before .before .before .before .before .if1 .left)) (rw m at (c .before .before .put-count2 .ensures .0))
+
+pub put-number-spec : {M : Type 1} → statement M
+put-number-spec =
+    tie.close
+    (tie.spec
+    slice-write-buffer
+    magnitude-requires
+    add-put-count
+    put-count-requires
+    same-length
+    returns
+    magnitude-requires-2
+    put-count-requires-2
+    same-length-2
+    returns-2)

@@ -1,0 +1,3 @@
+-- The lines of the printing program.
+pub mod Decimals
+pub mod Lines

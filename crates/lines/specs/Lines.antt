@@ -1,0 +1,63 @@
+-- The lines that the printing program writes, and what a buffer holds once one is written.
+use Prim.Native.Nat.{ℕ, _+_}
+use mathlib.Core.Path.{_≡_}
+use mathlib.Core.List.{List, [], _∷_, _++_, map}
+use lib.IntN.{ℤ}
+use lib.ListN.{length, take, drop}
+use Rattle.laws.specs.Choice.{if_then_else_, _≤ᵇ_}
+use Rattle.lines.specs.Decimals.{countText, numberText}
+
+-- the bytes of a space, a newline, `L` and `R`
+abbrev pub space : ℕ
+space = 32
+
+abbrev pub newline : ℕ
+newline = 10
+
+abbrev pub letterL : ℕ
+letterL = 76
+
+abbrev pub letterR : ℕ
+letterR = 82
+
+-- words, each behind one space
+unfoldable pub spaced : List (List ℕ) → List ℕ
+spaced [] = []
+spaced (word ∷ words) = space ∷ (word ++ spaced words)
+
+-- a line: its first word, the others with one space between, a newline after the last
+abbrev pub lineText : List ℕ → List (List ℕ) → List ℕ
+lineText first others = (first ++ spaced others) ++ newline ∷ []
+
+-- the first line: L, added, missing, refused
+unfoldable pub levelsLine : ℕ → ℕ → ℕ → List ℕ
+levelsLine added missing refused = lineText (letterL ∷ []) (map countText (added ∷ missing ∷ refused ∷ []))
+
+-- the line of a sheet: its index and its numbers
+unfoldable pub sheetLine : ℕ → List ℤ → List ℕ
+sheetLine index numbers = lineText (countText index) (map numberText numbers)
+
+-- the last line: R, sheets, answered, route class
+unfoldable pub routeLine : ℕ → ℕ → ℕ → List ℕ
+routeLine sheets answered class = lineText (letterR ∷ []) (map countText (sheets ∷ answered ∷ class ∷ []))
+
+-- the room that a line is given
+abbrev pub room : ℕ
+room = 192
+
+-- a buffer with a text at a place
+unfoldable pub withText : ℕ → List ℕ → List ℕ → List ℕ
+withText at text buffer = take at buffer ++ (text ++ drop (at + length text) buffer)
+
+-- the place after a line at a place: the same place where there is no room
+unfoldable pub placeAfter : List ℕ → ℕ → List ℕ → ℕ
+placeAfter line at buffer = if at + room ≤ᵇ length buffer then at + length line else at
+
+-- the buffer after a line at a place: as it was where there is no room
+unfoldable pub bufferAfter : List ℕ → ℕ → List ℕ → List ℕ
+bufferAfter line at buffer = if at + room ≤ᵇ length buffer then withText at line buffer else buffer
+
+-- a text was put at a place of a buffer, which is now as later; end is the place after it
+pub record Put (buffer : List ℕ) (at : ℕ) (text : List ℕ) (later : List ℕ) (end : ℕ) : Type 0 where
+  pub after : end ≡ at + length text
+  pub holds : later ≡ withText at text buffer

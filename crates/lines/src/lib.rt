@@ -1,0 +1,188 @@
+// The lines of the printing program: their text in decimal, put into a lent buffer.
+ghost use mathlib.Core.Path.{_≡_};
+ghost use mathlib.Core.List.{[], _∷_, map};
+ghost use Prim.Native.Nat.{_+_, _≤_, _<_};
+ghost use lib.IntN.{natAbs};
+ghost use lib.ListN.{length};
+ghost use Rattle.laws.specs.Choice.{_≤ᵇ_};
+ghost use Rattle.lines.specs.Decimals.{digits, countText, numberText};
+ghost use Rattle.lines.specs.Lines.{room, spaced, lineText, sheetLine, levelsLine, routeLine, placeAfter, bufferAfter, Put};
+
+// The room that a line is given: the longest has 177 bytes.
+const ROOM: usize = 192;
+
+// The numbers of a sheet's line behind its index, and the counts of a line that begins with a letter.
+const NUMBERS: usize = 13;
+
+const COUNTS: usize = 3;
+
+const ZERO: u64 = 48;
+
+const SPACE: u8 = 32;
+
+const NEWLINE: u8 = 10;
+
+const MINUS: u8 = 45;
+
+const LETTER_L: u8 = 76;
+
+const LETTER_R: u8 = 82;
+
+// Puts the line of a sheet at a place and answers the place after it; the same place, and nothing put, where there is no room.
+pub fn put_sheet_line(index: u64, numbers: [i32; NUMBERS], buffer: &mut [u8], at: usize) -> usize
+    ensures { λ r. ⌜ (r ≡ placeAfter (sheetLine index numbers) at (now (buffer .entry))) × (now (buffer .exit) ≡ bufferAfter (sheetLine index numbers) at (now (buffer .entry))) ⌝ }
+{
+    if !has_room(buffer.len(), at) {
+        return at;
+    }
+    put_index_line(index, numbers, buffer, at)
+}
+
+// The first line likewise: the readings added, missing and refused.
+pub fn put_levels_line(
+    added: u64,
+    missing: u64,
+    refused: u64,
+    buffer: &mut [u8],
+    at: usize,
+) -> usize
+    ensures { λ r. ⌜ (r ≡ placeAfter (levelsLine added missing refused) at (now (buffer .entry))) × (now (buffer .exit) ≡ bufferAfter (levelsLine added missing refused) at (now (buffer .entry))) ⌝ }
+{
+    if !has_room(buffer.len(), at) {
+        return at;
+    }
+    put_letter_line(LETTER_L, [added, missing, refused], buffer, at)
+}
+
+// The last line likewise: the sheets, those answered, and the route's class.
+pub fn put_route_line(sheets: u64, answered: u64, class: u8, buffer: &mut [u8], at: usize) -> usize
+    ensures { λ r. ⌜ (r ≡ placeAfter (routeLine sheets answered class) at (now (buffer .entry))) × (now (buffer .exit) ≡ bufferAfter (routeLine sheets answered class) at (now (buffer .entry))) ⌝ }
+{
+    if !has_room(buffer.len(), at) {
+        return at;
+    }
+    put_letter_line(LETTER_R, [sheets, answered, class as u64], buffer, at)
+}
+
+// Whether a buffer of so many bytes has a line's room from a place on.
+fn has_room(bytes: usize, at: usize) -> bool
+    ensures { λ r. ⌜ r ≡ (at + room ≤ᵇ bytes) ⌝ }
+{
+    if bytes < ROOM {
+        return false;
+    }
+    at <= bytes - ROOM
+}
+
+// A line of an index and thirteen numbers.
+fn put_index_line(index: u64, numbers: [i32; NUMBERS], buffer: &mut [u8], at: usize) -> usize
+    requires { ⌜ at + room ≤ length (now buffer) ⌝ }
+    ensures { λ r. ⌜ Put (now (buffer .entry)) at (lineText (countText index) (map numberText numbers)) (now (buffer .exit)) r ⌝ }
+{
+    let first = put_count(index, buffer, at);
+    let last = put_numbers(numbers, buffer, first);
+    buffer[last] = NEWLINE;
+    last + 1
+}
+
+// A line of a letter and three counts.
+fn put_letter_line(letter: u8, counts: [u64; COUNTS], buffer: &mut [u8], at: usize) -> usize
+    requires { ⌜ at + room ≤ length (now buffer) ⌝ }
+    ensures { λ r. ⌜ Put (now (buffer .entry)) at (lineText (letter ∷ []) (map countText counts)) (now (buffer .exit)) r ⌝ }
+{
+    buffer[at] = letter;
+    let last = put_counts(counts, buffer, at + 1);
+    buffer[last] = NEWLINE;
+    last + 1
+}
+
+// Signed numbers, each behind one space.
+fn put_numbers(numbers: [i32; NUMBERS], buffer: &mut [u8], at: usize) -> usize
+    requires { ⌜ at + 172 ≤ length (now buffer) ⌝ }
+    ensures { λ r. ⌜ Put (now (buffer .entry)) at (spaced (map numberText numbers)) (now (buffer .exit)) r × (r ≤ at + 156) ⌝ }
+{
+    let mut end = at;
+    let mut i: usize = 0;
+    while i < NUMBERS {
+        buffer[end] = SPACE;
+        end = put_number(numbers[i], buffer, end + 1);
+        i += 1;
+    }
+    end
+}
+
+// Counts, each behind one space.
+fn put_counts(counts: [u64; COUNTS], buffer: &mut [u8], at: usize) -> usize
+    requires { ⌜ at + 63 ≤ length (now buffer) ⌝ }
+    ensures { λ r. ⌜ Put (now (buffer .entry)) at (spaced (map countText counts)) (now (buffer .exit)) r × (r ≤ at + 63) ⌝ }
+{
+    let mut end = at;
+    let mut i: usize = 0;
+    while i < COUNTS {
+        buffer[end] = SPACE;
+        end = put_count(counts[i], buffer, end + 1);
+        i += 1;
+    }
+    end
+}
+
+// A signed number: a minus before a negative one.
+fn put_number(number: i32, buffer: &mut [u8], at: usize) -> usize
+    requires { ⌜ at + 21 ≤ length (now buffer) ⌝ }
+    ensures { λ r. ⌜ Put (now (buffer .entry)) at (numberText number) (now (buffer .exit)) r × (r ≤ at + 11) ⌝ }
+{
+    if number < 0 {
+        buffer[at] = MINUS;
+        return put_count(magnitude(number), buffer, at + 1);
+    }
+    put_count(magnitude(number), buffer, at)
+}
+
+// A number without its sign.
+fn magnitude(number: i32) -> u64
+    ensures { λ r. ⌜ r ≡ natAbs number ⌝ }
+{
+    if number < 0 {
+        return (-1 - number) as u64 + 1;
+    }
+    number as u64
+}
+
+// A count: its digits from the last to the first.
+fn put_count(count: u64, buffer: &mut [u8], at: usize) -> usize
+    requires { ⌜ at + 20 ≤ length (now buffer) ⌝ }
+    ensures { λ r. ⌜ Put (now (buffer .entry)) at (countText count) (now (buffer .exit)) r × (r ≤ at + 20) ⌝ }
+{
+    let end = at + places(count);
+    let mut place = end;
+    let mut rest = count;
+    while 10 <= rest {
+        place -= 1;
+        buffer[place] = (ZERO + rest % 10) as u8;
+        rest = rest / 10;
+    }
+    buffer[at] = (ZERO + rest) as u8;
+    end
+}
+
+// How many digits a count has: four at a time while it is long, then by comparisons.
+fn places(count: u64) -> usize
+    ensures { λ r. ⌜ r ≡ length (digits count) ⌝ }
+{
+    let mut places: usize = 0;
+    let mut rest = count;
+    while 10000 <= rest {
+        places += 4;
+        rest = rest / 10000;
+    }
+    if rest < 10 {
+        return places + 1;
+    }
+    if rest < 100 {
+        return places + 2;
+    }
+    if rest < 1000 {
+        return places + 3;
+    }
+    places + 4
+}
