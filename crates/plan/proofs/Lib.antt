@@ -1,2 +1,4 @@
 pub mod Signs
 pub mod Placing
+pub mod Planning
+pub mod Promises

@@ -1,2 +1,3 @@
 -- The call from C: definition, section 9.
 pub mod Words
+pub mod Plan

@@ -6,7 +6,12 @@ ghost use lib.ListN.{length, drop};
 ghost use lib.Seq.{sets};
 ghost use mir.Syntax.{w32};
 ghost use mir.Val.{ofZ};
+ghost use Rattle.design.specs.Numbers.{reasonNumber};
 ghost use Rattle.plan.specs.Words.{wordBytes, bytesOfNumbers};
+ghost use Rattle.plan.specs.Plan.{codeOf, planNumber, planPlace};
+use design::Answer;
+use design::Reason;
+use gauge::LevelRead;
 
 // The numbers of an answer.
 const COUNT: usize = 13;
@@ -45,4 +50,44 @@ fn put_numbers(numbers: [i32; COUNT], place: &mut [u8])
         put_word(place, 4 * i, word);
         i += 1;
     }
+}
+
+// The code of an answer.
+fn code_of(answer: Answer) -> u32
+    ensures { λ r. ⌜ r ≡ codeOf answer ⌝ }
+{
+    match answer {
+        Answer::Answered(_) => 0,
+        Answer::Refused(reason) => reason_code(reason),
+    }
+}
+
+fn reason_code(reason: Reason) -> u32
+    ensures { λ r. ⌜ r ≡ reasonNumber reason ⌝ }
+{
+    match reason {
+        Reason::WrongLength => 1,
+        Reason::SpareBitSet => 2,
+        Reason::BadField(_) => 3,
+        Reason::WrongTable => 4,
+        Reason::TooFewReadings => 5,
+        Reason::RangeTooWide => 6,
+        Reason::BendTooTight => 7,
+        Reason::NoWidthEntry => 8,
+        Reason::NoCut => 9,
+    }
+}
+
+// Plans a sheet with no level table: 12 where the place is too small; else the code, with the numbers in the place.
+#[no_mangle]
+pub extern "C" fn channel_plan(sheet: &[u8], place: &mut [u8]) -> u32
+    ensures { λ r. ⌜ (r ≡ planNumber (now (sheet .entry)) (now (place .entry))) × (now (place .exit) ≡ planPlace (now (sheet .entry)) (now (place .entry))) ⌝ }
+{
+    if place.len() < 52 {
+        return 12;
+    }
+    let answer = design::design_at(sheet, LevelRead::WrongTable);
+    let numbers = design::numbers(answer);
+    put_numbers(numbers, place);
+    code_of(answer)
 }

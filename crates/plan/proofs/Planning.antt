@@ -1,0 +1,81 @@
+-- Each way out of the call from C, exactly when it is taken, and what it leaves in the place.
+-- Assumes nothing.
+use mathlib.Core.Path.{_≡_, refl, ap, sym, _∙_}
+use mathlib.Core.Bool.{Bool, true, false}
+use mathlib.Core.List.{List, _++_}
+use mathlib.Core.Logic.{_↔_}
+use Prim.Native.Nat.{ℕ, _*_, _≤_, _<_}
+use native.Mathlib.Omega.{arith}
+use borrow.Author.Tests.{lt-ltb, le-ltb, ltb-true, ltb-false}
+use lib.Dec.{ltb}
+use lib.IntN.{ℤ}
+use lib.ListN.{length, take, drop}
+use lib.Seq.{drop-at, take-at}
+use Rattle.laws.specs.Choice.{if_then_else_}
+use Rattle.design.specs.Numbers.{reasonNumber, numbersOf}
+use Rattle.design.specs.declared.Answer.{Answer}
+use Rattle.design.specs.declared.Answer.the-variants.{Answered, Refused}
+use Rattle.design.specs.declared.Reason.{Reason}
+use Rattle.design.specs.declared.Reason.the-variants.{WrongLength, SpareBitSet, BadField, WrongTable, TooFewReadings, RangeTooWide, BendTooTight, NoWidthEntry, NoCut}
+use Rattle.plan.specs.Words.{bytesOfNumbers}
+use Rattle.plan.specs.Plan.{needed, codeOf, planned, planNumber, planPlace}
+use Rattle.plan.proofs.Placing.{bytes-length}
+
+module _ (sheet place : List ℕ) where
+  pub too-small : length place < needed → (12 ≡ planNumber sheet place) × (place ≡ planPlace sheet place)
+  unfolding planNumber planPlace
+  too-small h = rw (lt-ltb (length place) needed h) (refl, refl)
+
+  pub has-room : (a : Answer) (numbers : List ℤ) (code : ℕ) (later : List ℕ) → needed ≤ length place → a ≡ planned sheet
+      → numbers ≡ numbersOf a → code ≡ codeOf a → later ≡ bytesOfNumbers numbers ++ drop needed place
+      → (code ≡ planNumber sheet place) × (later ≡ planPlace sheet place)
+  unfolding planNumber planPlace
+  has-room a numbers code later h e n c l =
+      rw (le-ltb (length place) needed h)
+      (c ∙ ap codeOf e, l ∙ ap (λ (z : List ℤ). bytesOfNumbers z ++ drop needed place) (n ∙ ap numbersOf e))
+
+  -- no design is refused by 12
+  codes : (a : Answer) → codeOf a ≤ 9
+  codes (Answered f) = omega arith
+  codes (Refused WrongLength) = omega arith
+  codes (Refused SpareBitSet) = omega arith
+  codes (Refused (BadField k)) = omega arith
+  codes (Refused WrongTable) = omega arith
+  codes (Refused TooFewReadings) = omega arith
+  codes (Refused RangeTooWide) = omega arith
+  codes (Refused BendTooTight) = omega arith
+  codes (Refused NoWidthEntry) = omega arith
+  codes (Refused NoCut) = omega arith
+
+  pub twelve-exactly : (planNumber sheet place ≡ 12) ↔ (length place < needed)
+  unfolding planNumber
+  twelve-exactly = ((λ e. go (ltb (length place) needed) refl e), (λ h. sym (too-small h .0)))
+    where
+      go : (b : Bool) → ltb (length place) needed ≡ b → (if b then 12 else codeOf (planned sheet)) ≡ 12 → length place < needed
+      go true p e = ltb-true _ _ p
+      go false p e = absurd (omega (arith, codes (planned sheet)))
+
+  pub code-with-room : needed ≤ length place → planNumber sheet place ≡ codeOf (planned sheet)
+  unfolding planNumber
+  code-with-room h = rw (le-ltb (length place) needed h)
+
+  numbers-length : (a : Answer) → length (numbersOf a) ≡ 13
+  unfolding numbersOf
+  numbers-length (Answered f) = refl
+  numbers-length (Refused r) = refl
+
+  filled : length (bytesOfNumbers (numbersOf (planned sheet))) ≡ needed
+  filled = bytes-length (numbersOf (planned sheet)) ∙ ap (λ (n : ℕ). 4 * n) (numbers-length (planned sheet))
+
+  -- with room, the numbers stand first and nothing later changes; without, nothing changes at all
+  pub numbers-first : needed ≤ length place → take needed (planPlace sheet place) ≡ bytesOfNumbers (numbersOf (planned sheet))
+  unfolding planPlace
+  numbers-first h = rw (le-ltb (length place) needed h) (take-at (bytesOfNumbers (numbersOf (planned sheet))) (drop needed place) needed filled)
+
+  pub later-stay : drop needed (planPlace sheet place) ≡ drop needed place
+  unfolding planPlace
+  later-stay = go (ltb (length place) needed)
+    where
+      go : (b : Bool) → drop needed (if b then place else bytesOfNumbers (numbersOf (planned sheet)) ++ drop needed place) ≡ drop needed place
+      go true = refl
+      go false = drop-at (bytesOfNumbers (numbersOf (planned sheet))) (drop needed place) needed filled

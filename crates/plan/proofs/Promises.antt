@@ -1,0 +1,39 @@
+-- What the call from C promises (section 9).
+-- Assumes nothing.
+use mathlib.Core.Path.{_≡_}
+use mathlib.Core.List.{List}
+use mathlib.Core.Logic.{_↔_}
+use Prim.Native.Nat.{ℕ, _≤_, _<_}
+use lib.ListN.{length, take, drop}
+use Rattle.laws.proofs.Unique.{one-answer}
+use Rattle.design.specs.Numbers.{numbersOf}
+use Rattle.plan.specs.Words.{bytesOfNumbers}
+use Rattle.plan.specs.Plan.{needed, codeOf, planned, planNumber, planPlace}
+use Rattle.plan.proofs.Planning.{too-small, twelve-exactly, code-with-room, numbers-first, later-stay}
+
+-- 12, tested first: a place under 52 bytes.
+pub number-12 : (sheet place : List ℕ) → (planNumber sheet place ≡ 12) ↔ (length place < needed)
+number-12 = twelve-exactly
+
+-- Nothing is written then.
+pub nothing-written : (sheet place : List ℕ) → length place < needed → place ≡ planPlace sheet place
+nothing-written sheet place h = too-small sheet place h .1
+
+-- Otherwise the code is returned.
+pub code-returned : (sheet place : List ℕ) → needed ≤ length place → planNumber sheet place ≡ codeOf (planned sheet)
+code-returned = code-with-room
+
+-- The first 52 bytes get thirteen signed 32-bit numbers, most significant byte first.
+pub numbers-written : (sheet place : List ℕ) → needed ≤ length place → take needed (planPlace sheet place) ≡ bytesOfNumbers (numbersOf (planned sheet))
+numbers-written = numbers-first
+
+-- Later bytes stay.
+pub later-bytes-stay : (sheet place : List ℕ) → drop needed (planPlace sheet place) ≡ drop needed place
+later-bytes-stay = later-stay
+
+-- One number back, and one later content of the place.
+pub one-number : (sheet place : List ℕ) (r s : ℕ) → r ≡ planNumber sheet place → s ≡ planNumber sheet place → r ≡ s
+one-number sheet place = one-answer
+
+pub one-place : (sheet place r s : List ℕ) → r ≡ planPlace sheet place → s ≡ planPlace sheet place → r ≡ s
+one-place sheet place = one-answer

@@ -1,0 +1,32 @@
+-- The call from C: a sheet and a place in, a number back (section 9).
+use mathlib.Core.List.{List, _++_}
+use Prim.Native.Nat.{ℕ}
+use lib.ListN.{length, drop}
+use Rattle.laws.specs.Choice.{if_then_else_, _<ᵇ_}
+use Rattle.gauge.specs.declared.LevelRead.the-variants.{WrongTable}
+use Rattle.design.specs.Design.{designAt}
+use Rattle.design.specs.Numbers.{reasonNumber, numbersOf}
+use Rattle.design.specs.declared.Answer.{Answer}
+use Rattle.design.specs.declared.Answer.the-variants.{Answered, Refused}
+use Rattle.plan.specs.Words.{bytesOfNumbers}
+
+-- thirteen numbers of four bytes
+abbrev pub needed : ℕ
+needed = 52
+
+-- the code of an answer: 0, or the number that turns the sheet away
+abbrev pub codeOf : Answer → ℕ
+codeOf (Answered f) = 0
+codeOf (Refused r) = reasonNumber r
+
+-- there is no table, so a level off the record gives 4
+abbrev pub planned : List ℕ → Answer
+planned sheet = designAt sheet WrongTable
+
+-- what is returned: 12 is tested first
+unfoldable pub planNumber : List ℕ → List ℕ → ℕ
+planNumber sheet place = if length place <ᵇ needed then 12 else codeOf (planned sheet)
+
+-- what the place then holds: the numbers first, and its later bytes; or, with 12, what it held
+unfoldable pub planPlace : List ℕ → List ℕ → List ℕ
+planPlace sheet place = if length place <ᵇ needed then place else bytesOfNumbers (numbersOf (planned sheet)) ++ drop needed place
