@@ -1,0 +1,2 @@
+-- The classes: definition, section 7.
+pub mod Classes
