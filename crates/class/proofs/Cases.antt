@@ -4,7 +4,7 @@ use mathlib.Core.Path.{_≡_, refl}
 use mathlib.Core.List.{List, [], _∷_}
 use Prim.Native.Nat.{ℕ}
 use Rattle.datum.specs.Datum.{below}
-use Rattle.lanes.specs.declared.Lanes.the-variants.{One, Two}
+use Rattle.lanes.specs.declared.Lanes.the-variants.{One}
 use Rattle.class.specs.Classes.{classBy, shipClass, widthClass, depthClass, withShip, routeClass}
 
 pub starred : _≡_ {A = List ℕ}

@@ -1,12 +1,11 @@
 -- A greater beam, wind, current or wave never narrows a width and never answers a refused one:
 -- each band rises, so the items do, the total does, and its product with the beam.
 -- Assumes nothing.
-use mathlib.Core.Path.{_≡_, subst⁻¹}
-use Prim.Native.Nat.{ℕ, _+_, _*_, _≤_}
+use mathlib.Core.Path.{subst⁻¹}
+use Prim.Native.Nat.{ℕ, _≤_}
 use native.Mathlib.Nat.{le-refl, le-trans, mul-le-mul}
 use native.Mathlib.Omega.{arith}
 use Rattle.laws.specs.Choice.{if_then_else_, _≤ᵇ_, _<ᵇ_}
-use Rattle.laws.specs.Rounding.{up}
 use Rattle.laws.proofs.Rising.{Rises, last-band, next-band, under-falls, to-falls}
 use Rattle.laws.proofs.Rounding.{up-mono}
 use Rattle.lanes.specs.declared.Lanes.{Lanes}

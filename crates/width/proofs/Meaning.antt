@@ -24,15 +24,12 @@ use Rattle.width.proofs.Curves.{lengths-within, straight, tight, long-e
 use Rattle.width.specs.declared.Water.{Water}
 use Rattle.width.specs.declared.Water.the-variants.{Open, Sheltered}
 use Rattle.width.specs.declared.SpeedBand.{SpeedBand}
-use Rattle.width.specs.declared.SpeedBand.the-variants.{Moderate, Slow}
 use Rattle.width.specs.declared.Entry.{Entry}
 use Rattle.width.specs.declared.Entry.the-variants.{Tenths, Blank}
 use Rattle.width.specs.declared.Stretch.{Stretch}
 use Rattle.width.specs.declared.Items.{Items}
-use Rattle.width.specs.declared.ItemsFound.{ItemsFound}
-use Rattle.width.specs.declared.ItemsFound.the-variants.{Listed, NoEntry as NoItems}
-use Rattle.width.specs.declared.WidthFound.{WidthFound}
-use Rattle.width.specs.declared.WidthFound.the-variants.{Found, NoEntry}
+use Rattle.width.specs.declared.ItemsFound.the-variants.{Listed}
+use Rattle.width.specs.declared.WidthFound.the-variants.{Found}
 
 -- an entry is missing exactly past the last band of sheltered water
 cross-has : (water : Water) (band : SpeedBand) (cross : CrossCurrent)

@@ -1,6 +1,6 @@
 -- What the width and the bends promise (sections 5, 6 and 8), each cited from its proof. `itemsOf`, `tenthsOf`, `widthOf`, `hasEntries`
 -- and `bendOf` are what the calls of like names ensure. Assumes nothing.
-use mathlib.Core.Path.{_≡_, refl}
+use mathlib.Core.Path.{_≡_}
 use mathlib.Core.Bool.{Bool, false}
 use mathlib.Core.List.{List, [], _∷_}
 use mathlib.Core.Logic.{_↔_}

@@ -17,7 +17,6 @@ use Rattle.width.specs.declared.Water.{Water}
 use Rattle.width.specs.declared.Water.the-variants.{Open, Sheltered}
 use Rattle.width.specs.declared.SpeedBand.{SpeedBand}
 use Rattle.width.specs.declared.SpeedBand.the-variants.{Moderate, Slow}
-use Rattle.width.specs.declared.Entry.{Entry}
 use Rattle.width.specs.declared.Entry.the-variants.{Tenths, Blank}
 
 abbrev crossTable : List (List ℕ)
