@@ -57,19 +57,30 @@ fn store(place: &mut [u32], at: usize, figure: u32) {
     }
 }
 
+// The items in the order of the definition.
+fn item_at(items: Items, k: usize) -> u8 {
+    match k {
+        0 => items.lane,
+        1 => items.wind,
+        2 => items.cross,
+        3 => items.along,
+        4 => items.wave,
+        5 => items.aids,
+        6 => items.bed,
+        7 => items.depth,
+        8 => items.cargo,
+        9 => items.banks,
+        10 => items.passing,
+        _ => items.traffic,
+    }
+}
+
 fn store_items(place: &mut [u32], items: Items) {
-    store(&mut *place, 0, items.lane as u32);
-    store(&mut *place, 1, items.wind as u32);
-    store(&mut *place, 2, items.cross as u32);
-    store(&mut *place, 3, items.along as u32);
-    store(&mut *place, 4, items.wave as u32);
-    store(&mut *place, 5, items.aids as u32);
-    store(&mut *place, 6, items.bed as u32);
-    store(&mut *place, 7, items.depth as u32);
-    store(&mut *place, 8, items.cargo as u32);
-    store(&mut *place, 9, items.banks as u32);
-    store(&mut *place, 10, items.passing as u32);
-    store(&mut *place, 11, items.traffic as u32);
+    let mut k: usize = 0;
+    while k < 12 {
+        store(&mut *place, k, item_at(items, k) as u32);
+        k += 1;
+    }
 }
 
 // The items into the place; 0, or 8.

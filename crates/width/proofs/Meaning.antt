@@ -210,7 +210,7 @@ module _ (turn radius length knots : ℕ) (lanes : Lanes) where
       go true p = sym (straight turn radius length knots lanes (eqb-true turn 0 p))
       go false p = sym (wide turn radius length knots lanes (eqb-false turn 0 p) (leastLengths turn) refl (omega (arith, least)) h)
 
-  -- else the widening is the least that reaches the paper's fraction
+  -- else the widening is the least that reaches the definition's fraction
   pub widening-exactly : (turn ≡ 0 → ⊥) → leastLengths turn * length ≤ 100 * radius → 100 * radius < 10 * length → (cm : ℕ)
       → (bendOf turn radius length knots lanes ≡ Widening cm)
       ↔ Least (λ (w : ℕ). 9144 * turn * (knots * knots) * (length * length) * laneCount lanes ≤ w * (2446000000 * radius)) cm
