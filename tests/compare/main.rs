@@ -7,6 +7,8 @@ mod second;
 mod depths;
 mod gauges;
 mod handles;
+mod parts;
+mod plans;
 mod report;
 mod sheets;
 
@@ -18,6 +20,7 @@ fn main() {
         "adding-readings" => gauges::adding(),
         "design-levels" => gauges::levels(),
         "depths" => depths::depths(),
+        "plans" => plans::plans(),
         _ => {
             eprintln!("compare: no comparison is called '{name}'");
             std::process::exit(2);
