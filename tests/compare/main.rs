@@ -9,6 +9,8 @@ mod gauges;
 mod handles;
 mod parts;
 mod plans;
+mod printing;
+mod program;
 mod report;
 mod sheets;
 
@@ -21,6 +23,7 @@ fn main() {
         "design-levels" => gauges::levels(),
         "depths" => depths::depths(),
         "plans" => plans::plans(),
+        "printing" => printing::printing(),
         _ => {
             eprintln!("compare: no comparison is called '{name}'");
             std::process::exit(2);

@@ -12,7 +12,9 @@ pub fn in_parts(name: &str, parts: u64, part: impl Fn(u64) -> u64 + Sync) -> u64
             break;
         }
         sum.fetch_add(part(number), Ordering::Relaxed);
-        println!("{name}: part {number} of {parts} is done");
+        if number % (parts / 8).max(1) == 0 {
+            println!("{name}: part {number} of {parts} is done");
+        }
     };
     let cores = std::thread::available_parallelism().map_or(1, |cores| cores.get());
     std::thread::scope(|scope| {
