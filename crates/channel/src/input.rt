@@ -1,0 +1,101 @@
+// Reading a file or a pipe in blocks: a short read, a slow writer or an interrupted call changes nothing.
+ghost use Prim.Native.Nat.{_-_, _<_, _≤_};
+ghost use lib.ListN.{length};
+ghost use Rattle.channel.specs.Input.{GotWithin, Filling};
+
+// What one read gave: some bytes, the end, an interruption, or a failure.
+pub enum Got {
+    Bytes(usize),
+    End,
+    Interrupted,
+    Failed,
+}
+
+// What a read answered, of so much room.
+fn got_of(answer: isize, room: usize) -> Got
+    ensures { λ r. ⌜ GotWithin r room ⌝ }
+{
+    if answer < 0 {
+        if os::errno() == libc::EINTR {
+            return Got::Interrupted;
+        }
+        return Got::Failed;
+    }
+    let count = answer as usize;
+    if count == 0 {
+        return Got::End;
+    }
+    if room < count {
+        return Got::Failed;
+    }
+    Got::Bytes(count)
+}
+
+// One read into what is left of a space.
+pub fn read_some(fd: i32, space: &mut [u8], have: usize) -> Got
+    requires { ⌜ have ≤ length (now space) ⌝ }
+    ensures { λ r. ⌜ GotWithin r (length (now (space .entry)) - have) ⌝ }
+{
+    let room = space.len() - have;
+    let answer = libc::read(fd, &mut space[have..]);
+    got_of(answer, room)
+}
+
+// How much of a space was filled, and why no more: it is full, the input ended, or a read failed.
+pub struct Filled {
+    pub count: usize,
+    pub ended: bool,
+    pub failed: bool,
+}
+
+// Fills a space from its start.
+pub fn fill(fd: i32, space: &mut [u8]) -> Filled
+    ensures { λ r. ⌜ Filling r (length (now (space .entry))) ⌝ }
+{
+    let mut have: usize = 0;
+    let mut turns: u64 = 18446744073709551615;
+    while have < space.len() {
+        if turns == 0 {
+            return Filled {
+                count: have,
+                ended: true,
+                failed: true,
+            };
+        }
+        turns -= 1;
+        let got = read_some(fd, &mut *space, have);
+        match got {
+            Got::Bytes(count) => {
+                have += count;
+            }
+            Got::End => {
+                return Filled {
+                    count: have,
+                    ended: true,
+                    failed: false,
+                };
+            }
+            Got::Interrupted => {}
+            Got::Failed => {
+                return Filled {
+                    count: have,
+                    ended: true,
+                    failed: true,
+                };
+            }
+        }
+    }
+    Filled {
+        count: have,
+        ended: false,
+        failed: false,
+    }
+}
+
+// The turns that are left of a loop over blocks: none where there is nothing more.
+pub fn left(turns: u64, more: bool) -> u64
+    requires { ⌜ 0 < turns ⌝ }
+    ensures { λ r. ⌜ r < turns ⌝ }
+{
+    if more { turns - 1 } else { 0 }
+}
