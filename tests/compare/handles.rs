@@ -12,6 +12,7 @@ pub enum Handle {
     DesignLevel,
     Depth,
     Worksheet,
+    Plans,
 }
 
 pub struct Handles {

@@ -7,6 +7,10 @@ mod second;
 mod depths;
 mod gauges;
 mod handles;
+mod parts;
+mod plans;
+mod printing;
+mod program;
 mod report;
 mod sheets;
 
@@ -18,6 +22,8 @@ fn main() {
         "adding-readings" => gauges::adding(),
         "design-levels" => gauges::levels(),
         "depths" => depths::depths(),
+        "plans" => plans::plans(),
+        "printing" => printing::printing(),
         _ => {
             eprintln!("compare: no comparison is called '{name}'");
             std::process::exit(2);

@@ -35,6 +35,16 @@ impl Report {
         }
     }
 
+    /// How many cases there were.
+    pub fn cases(&self) -> u64 {
+        self.cases
+    }
+
+    /// Cases that a part of the comparison has counted.
+    pub fn add(&mut self, cases: u64) {
+        self.cases += cases;
+    }
+
     pub fn end(&self) {
         if self.cases < self.wanted {
             println!(

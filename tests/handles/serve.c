@@ -1,13 +1,38 @@
 /* Serves the tests' handles over a pipe: a request is a handle's number, an input and a place; the
    reply is what the handle returned and what the place then holds. All numbers are little-endian. */
+#include <channel.h>
 #include <stddef.h>
 #include <stdint.h>
 #include <stdio.h>
 #include <stdlib.h>
+#include <string.h>
 
 typedef uint32_t call(const void *input, size_t count, void *place, size_t room);
 
 extern call trial_read, trial_write, trial_add, trial_level, trial_depth, trial_worksheet;
+
+/* A plan's part of the place: what the call returned, and the bytes that it is lent with bytes behind them. */
+enum { RETURNED = 4, PART = RETURNED + 96 };
+
+/* Null where nothing is lent, as the header allows. */
+static const void *lent(const void *at, size_t length) { return length ? at : NULL; }
+
+/* Many plans in one request, since a round trip costs more than a plan. Each case of the input is the sheet's length,
+   the length of the place and the sheet. Returns how many were done. */
+static uint32_t plans(const void *input, size_t count, void *place, size_t room) {
+    const uint8_t *at = input, *end = at + count;
+    uint8_t *part = place;
+    uint32_t done = 0;
+    for (; end - at >= 2 && room >= PART; done++, part += PART, room -= PART) {
+        size_t length = at[0], lent_length = at[1];
+        if (length > (size_t)(end - at) - 2 || lent_length > PART - RETURNED)
+            break;
+        uint32_t code = channel_plan(lent(at + 2, length), length, (uint8_t *)lent(part + RETURNED, lent_length), lent_length);
+        memcpy(part, &code, RETURNED);
+        at += 2 + length;
+    }
+    return done;
+}
 
 /* A handle, and the bytes of one element of its input and of its place. */
 struct handle {
@@ -22,6 +47,7 @@ static const struct handle handles[] = {
     {trial_level, 4, 1},
     {trial_depth, 4, 4},
     {trial_worksheet, 4, 4},
+    {plans, 1, 1},
 };
 
 static int take(void *to, size_t count) { return fread(to, 1, count, stdin) == count; }
