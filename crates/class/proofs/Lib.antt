@@ -1,3 +1,4 @@
 pub mod Limits
 pub mod Routes
+pub mod Cases
 pub mod Promises

@@ -1,45 +1,65 @@
--- What the classes promise (section 7).
--- Assumes nothing.
-use mathlib.Core.Path.{_≡_}
-use mathlib.Core.List.{List, foldl}
-use Prim.Native.Nat.{ℕ}
+-- What the classes promise (section 7), each cited from its proof. Assumes nothing.
+use mathlib.Core.Path.{_≡_, refl}
+use mathlib.Core.List.{List, [], _∷_, _++_, List·Memᴰ}
+use mathlib.Core.Logic.{_↔_}
+use Prim.Native.Nat.{ℕ, _≤_}
 use native.Mathlib.Omega.{arith}
+use Rattle.laws.specs.Extremes.{Least}
 use Rattle.laws.proofs.Unique.{one-answer}
+use Rattle.datum.specs.Datum.{below}
 use Rattle.datum.specs.declared.BelowLevel.{BelowLevel}
 use Rattle.lanes.specs.declared.Lanes.{Lanes}
 use Rattle.lanes.specs.declared.Lanes.the-variants.{One, Two}
-use Rattle.class.specs.Class.{shipClass, widthClass, depthClass, routeClass, noneAnswered, smallest}
-use Rattle.class.proofs.Limits.{Classed, classed}
-use Rattle.class.proofs.Routes.{route-smallest}
+use Rattle.class.specs.Classes.{shipClass, widthClass, depthClass, InClass, withShip, routeClass}
+use Rattle.class.proofs.Limits.{class-exactly, class-within}
+use Rattle.class.proofs.Routes.{smallest, one-more}
+use Rattle.class.proofs.Cases.{starred}
 
--- Ship from 40,000, 20,000, 10,000, 5,000 t.
-pub ship-class : (deadweight : ℕ) → Classed deadweight 40000 20000 10000 5000 (shipClass deadweight)
-ship-class deadweight = classed deadweight 40000 20000 10000 5000 (omega arith) (omega arith) (omega arith)
+-- Ship from 40,000, 20,000, 10,000, 5,000 t, and nothing else.
+pub ship-classes : (deadweight k : ℕ) → (shipClass deadweight ≡ k) ↔ InClass 40000 20000 10000 5000 deadweight k
+ship-classes deadweight = class-exactly 40000 20000 10000 5000 deadweight (omega arith)
 
 -- Width without widening from 110, 90, 70, 50 m, or 240, 200, 160, 120 for two lanes.
-pub one-lane-class : (width : ℕ) → Classed width 11000 9000 7000 5000 (widthClass width One)
-one-lane-class width = classed width 11000 9000 7000 5000 (omega arith) (omega arith) (omega arith)
+pub width-classes-one : (width k : ℕ) → (widthClass One width ≡ k) ↔ InClass 11000 9000 7000 5000 width k
+width-classes-one width = class-exactly 11000 9000 7000 5000 width (omega arith)
 
-pub two-lane-class : (width : ℕ) → Classed width 24000 20000 16000 12000 (widthClass width Two)
-two-lane-class width = classed width 24000 20000 16000 12000 (omega arith) (omega arith) (omega arith)
+pub width-classes-two : (width k : ℕ) → (widthClass Two width ≡ k) ↔ InClass 24000 20000 16000 12000 width k
+width-classes-two width = class-exactly 24000 20000 16000 12000 width (omega arith)
 
 -- Depth by s from 14, 11, 9, 8 m.
-pub depth-class : (s : BelowLevel) → Classed (s .0) 1400 1100 900 800 (depthClass s)
-depth-class s = classed (s .0) 1400 1100 900 800 (omega arith) (omega arith) (omega arith)
+pub depth-classes : (s : BelowLevel) (k : ℕ) → (depthClass s ≡ k) ↔ InClass 1400 1100 900 800 (s .0) k
+depth-classes s = class-exactly 1400 1100 900 800 (s .0) (omega arith)
 
--- The route takes the smallest ship class of its answered stretches, 5 if none.
-pub route-takes-smallest : (ships : List ℕ) → foldl routeClass noneAnswered ships ≡ smallest ships
-route-takes-smallest = route-smallest
+-- The route's class is 5 if no stretch is answered, and goes on by one stretch at a time.
+pub route-begins : routeClass [] ≡ 5
+route-begins = refl
 
--- Each call has one result.
-pub one-ship-class : (deadweight r s : ℕ) → r ≡ shipClass deadweight → s ≡ shipClass deadweight → r ≡ s
-one-ship-class deadweight = one-answer
+pub route-goes-on : (ships : List ℕ) (ship : ℕ) → routeClass (ships ++ (ship ∷ [])) ≡ withShip (routeClass ships) ship
+route-goes-on = one-more
 
-pub one-width-class : (width : ℕ) (lanes : Lanes) (r s : ℕ) → r ≡ widthClass width lanes → s ≡ widthClass width lanes → r ≡ s
-one-width-class width lanes = one-answer
+-- Otherwise it is the smallest ship class of its answered stretches, of which none is over 4.
+pub route-takes-smallest : (ships : List ℕ) → ((k : ℕ) → List·Memᴰ k ships → k ≤ 4) → (some : ℕ) → List·Memᴰ some ships
+    → Least (λ (k : ℕ). List·Memᴰ k ships) (routeClass ships)
+route-takes-smallest = smallest
 
-pub one-depth-class : (sailing : BelowLevel) (r s : ℕ) → r ≡ depthClass sailing → s ≡ depthClass sailing → r ≡ s
-one-depth-class sailing = one-answer
+pub ship-class-within : (deadweight : ℕ) → shipClass deadweight ≤ 4
+ship-class-within = class-within 40000 20000 10000 5000
 
-pub one-route-class : (so-far ship r s : ℕ) → r ≡ routeClass so-far ship → s ≡ routeClass so-far ship → r ≡ s
-one-route-class so-far ship = one-answer
+-- One answer of each call.
+pub ship-unique : (deadweight r t : ℕ) → r ≡ shipClass deadweight → t ≡ shipClass deadweight → r ≡ t
+ship-unique deadweight = one-answer
+
+pub width-unique : (lanes : Lanes) (width r t : ℕ) → r ≡ widthClass lanes width → t ≡ widthClass lanes width → r ≡ t
+width-unique lanes width = one-answer
+
+pub depth-unique : (s : BelowLevel) (r t : ℕ) → r ≡ depthClass s → t ≡ depthClass s → r ≡ t
+depth-unique s = one-answer
+
+pub route-unique : (route ship r t : ℕ) → r ≡ withShip route ship → t ≡ withShip route ship → r ≡ t
+route-unique route ship = one-answer
+
+-- Case S: ship 0, width 0, depth 1, route 0.
+pub starred-classes : _≡_ {A = List ℕ}
+    (shipClass 40000 ∷ widthClass One 14400 ∷ depthClass (below 1170) ∷ routeClass (0 ∷ []) ∷ [])
+    (0 ∷ 0 ∷ 1 ∷ 0 ∷ [])
+starred-classes = starred

@@ -1,43 +1,59 @@
--- A route's class: stretch by stretch, it is the smallest.
+-- The fold over a route's ship classes ends at the smallest of them.
 -- Assumes nothing.
-use mathlib.Core.Path.{_≡_, refl, ap, sym, _∙_}
+use mathlib.Core.Path.{_≡_, refl, _∙_}
 use mathlib.Core.Bool.{Bool, true, false}
-use mathlib.Core.List.{List, [], _∷_, foldl}
-use Prim.Native.Nat.{ℕ, _≤_, _<_, min}
+use mathlib.Core.List.{List, [], _∷_, _++_, foldl, foldl-append, List·Memᴰ, List·Memᴰ·head, List·Memᴰ·tail}
+use mathlib.Core.Logic.{_⊎_, inl, inr}
+use Prim.Native.Nat.{ℕ, _≤_}
+use native.Mathlib.Nat.{le-refl, le-trans}
 use native.Mathlib.Omega.{arith}
-use borrow.Author.Tests.{lt-ltb, le-ltb, ltb-true, ltb-false}
+use borrow.Author.Tests.{ltb-true, ltb-false}
 use lib.Dec.{ltb}
 use Rattle.laws.specs.Choice.{if_then_else_}
-use Rattle.class.specs.Class.{routeClass, noneAnswered, smallest}
+use Rattle.laws.specs.Extremes.{Least}
+use Rattle.class.specs.Classes.{withShip, routeClass}
 
-module _ (so-far ship : ℕ) where
-  pub smaller-ship : ship < so-far → ship ≡ routeClass so-far ship
-  unfolding routeClass
-  smaller-ship h = rw (lt-ltb ship so-far h)
+-- one more stretch: the result is one of the two, and at most both
+record Smaller (route ship r : ℕ) : Type 0 where
+  one : (r ≡ route) ⊎ (r ≡ ship)
+  to-route : r ≤ route
+  to-ship : r ≤ ship
 
-  pub no-smaller : so-far ≤ ship → so-far ≡ routeClass so-far ship
-  unfolding routeClass
-  no-smaller h = rw (le-ltb ship so-far h)
+with-ship : (route ship : ℕ) → Smaller route ship (withShip route ship)
+unfolding withShip
+with-ship route ship = go (ltb ship route) refl
+  where
+    go : (b : Bool) → ltb ship route ≡ b → Smaller route ship (if b then ship else route)
+    go true e = record { one = inr refl; to-route = omega (arith, ltb-true ship route e); to-ship = le-refl ship }
+    go false e = record { one = inl refl; to-route = le-refl route; to-ship = ltb-false ship route e }
 
-  pub is-min : routeClass so-far ship ≡ min so-far ship
-  unfolding routeClass
-  is-min = go (ltb ship so-far) refl
-    where
-      go : (b : Bool) → ltb ship so-far ≡ b → (if b then ship else so-far) ≡ min so-far ship
-      go true e = let h : ship < so-far = ltb-true ship so-far e in omega arith
-      go false e = let h : so-far ≤ ship = ltb-false ship so-far e in omega arith
+-- the fold, from any class that the route has so far
+fold-to-start : (b : ℕ) (ships : List ℕ) → foldl withShip b ships ≤ b
+fold-to-start b [] = le-refl b
+fold-to-start b (x ∷ ships) = le-trans (fold-to-start (withShip b x) ships) (with-ship b x .to-route)
 
--- stretch by stretch from any class so far
-from-any : (so-far : ℕ) (ships : List ℕ) → so-far ≤ noneAnswered → foldl routeClass so-far ships ≡ min so-far (smallest ships)
-unfolding smallest
-from-any so-far [] h = omega arith
-from-any so-far (ship ∷ ships) h =
-    from-any (routeClass so-far ship) ships (rw is-min (omega arith)) ∙ rw is-min (omega arith)
+fold-to-each : (b : ℕ) (ships : List ℕ) (k : ℕ) → List·Memᴰ k ships → foldl withShip b ships ≤ k
+fold-to-each b (x ∷ ships) k (List·Memᴰ·head e) = omega (arith, fold-to-start (withShip b x) ships, with-ship b x .to-ship)
+fold-to-each b (x ∷ ships) k (List·Memᴰ·tail m) = fold-to-each (withShip b x) ships k m
 
-smallest-within : (ships : List ℕ) → smallest ships ≤ noneAnswered
-unfolding smallest
-smallest-within [] = omega arith
-smallest-within (ship ∷ ships) = omega (arith, smallest-within ships)
+fold-one : (b : ℕ) (ships : List ℕ) → (foldl withShip b ships ≡ b) ⊎ List·Memᴰ (foldl withShip b ships) ships
+fold-one b [] = inl refl
+fold-one b (x ∷ ships) = go (fold-one (withShip b x) ships) (with-ship b x .one)
+  where
+    go : (foldl withShip (withShip b x) ships ≡ withShip b x) ⊎ List·Memᴰ (foldl withShip (withShip b x) ships) ships
+        → (withShip b x ≡ b) ⊎ (withShip b x ≡ x)
+        → (foldl withShip (withShip b x) ships ≡ b) ⊎ List·Memᴰ (foldl withShip (withShip b x) ships) (x ∷ ships)
+    go (inr m) w = inr (List·Memᴰ·tail m)
+    go (inl e) (inl w) = inl (e ∙ w)
+    go (inl e) (inr w) = inr (List·Memᴰ·head (e ∙ w))
 
-pub route-smallest : (ships : List ℕ) → foldl routeClass noneAnswered ships ≡ smallest ships
-route-smallest ships = from-any noneAnswered ships (omega arith) ∙ omega (arith, smallest-within ships)
+pub smallest : (ships : List ℕ) → ((k : ℕ) → List·Memᴰ k ships → k ≤ 4) → (some : ℕ) → List·Memᴰ some ships
+    → Least (λ (k : ℕ). List·Memᴰ k ships) (routeClass ships)
+smallest ships within some m = record { holds = go (fold-one 5 ships); least = fold-to-each 5 ships }
+  where
+    go : (routeClass ships ≡ 5) ⊎ List·Memᴰ (routeClass ships) ships → List·Memᴰ (routeClass ships) ships
+    go (inl e) = absurd (omega (arith, e, fold-to-each 5 ships some m, within some m))
+    go (inr n) = n
+
+pub one-more : (ships : List ℕ) (ship : ℕ) → routeClass (ships ++ (ship ∷ [])) ≡ withShip (routeClass ships) ship
+one-more ships ship = foldl-append withShip 5 ships (ship ∷ [])

@@ -1,2 +1,2 @@
--- Classes: definition, section 7.
-pub mod Class
+-- The classes: definition, section 7.
+pub mod Classes

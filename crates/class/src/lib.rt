@@ -1,12 +1,15 @@
-// Classes, from 0, special, to 4: of the ship, the width and the depth, and of a route (definition, section 7).
+// The classes of a ship, a width and a depth, 0 special to 4, and the route's (definition, section 7).
 ghost use mathlib.Core.Path.{_≡_};
-ghost use Rattle.class.specs.Class.{classFrom, shipClass, widthClass, depthClass, routeClass};
+ghost use Rattle.class.specs.Classes.{classBy, shipClass, widthClass, depthClass, withShip};
 use datum::BelowLevel;
 use lanes::Lanes;
 
-// The class of a figure by the least figures of classes 0 to 3.
-fn class_from(figure: u32, special: u32, first: u32, second: u32, third: u32) -> u8
-    ensures { λ r. ⌜ r ≡ classFrom figure special first second third ⌝ }
+// The class of a route none of whose stretches is answered: where its fold begins.
+pub const NONE_ANSWERED: u8 = 5;
+
+// The class of a figure, by the figures from which classes 0 to 3 count.
+fn class_by(special: u32, first: u32, second: u32, third: u32, figure: u32) -> u8
+    ensures { λ r. ⌜ r ≡ classBy special first second third figure ⌝ }
 {
     if special <= figure {
         return 0;
@@ -23,20 +26,20 @@ fn class_from(figure: u32, special: u32, first: u32, second: u32, third: u32) ->
     4
 }
 
-// By the ship's deadweight, t.
+// By the deadweight in t.
 pub fn ship_class(deadweight: u32) -> u8
     ensures { λ r. ⌜ r ≡ shipClass deadweight ⌝ }
 {
-    class_from(deadweight, 40000, 20000, 10000, 5000)
+    class_by(40000, 20000, 10000, 5000, deadweight)
 }
 
-// By the width without widening, cm.
+// By the width without widening, in cm.
 pub fn width_class(width: u32, lanes: Lanes) -> u8
-    ensures { λ r. ⌜ r ≡ widthClass width lanes ⌝ }
+    ensures { λ r. ⌜ r ≡ widthClass lanes width ⌝ }
 {
     match lanes {
-        Lanes::One => class_from(width, 11000, 9000, 7000, 5000),
-        Lanes::Two => class_from(width, 24000, 20000, 16000, 12000),
+        Lanes::One => class_by(11000, 9000, 7000, 5000, width),
+        Lanes::Two => class_by(24000, 20000, 16000, 12000, width),
     }
 }
 
@@ -44,15 +47,12 @@ pub fn width_class(width: u32, lanes: Lanes) -> u8
 pub fn depth_class(sailing: BelowLevel) -> u8
     ensures { λ r. ⌜ r ≡ depthClass sailing ⌝ }
 {
-    class_from(sailing.0 as u32, 1400, 1100, 900, 800)
+    class_by(1400, 1100, 900, 800, sailing.0 as u32)
 }
 
-// The class of a route before its first answered stretch.
-pub const NONE_ANSWERED: u8 = 5;
-
-// The class of a route with one more answered stretch: the smaller.
-pub fn route_class(so_far: u8, ship: u8) -> u8
-    ensures { λ r. ⌜ r ≡ routeClass «so_far» ship ⌝ }
+// The class of a route with one more answered stretch, of the given ship class.
+pub fn route_class(route: u8, ship: u8) -> u8
+    ensures { λ r. ⌜ r ≡ withShip route ship ⌝ }
 {
-    if ship < so_far { ship } else { so_far }
+    if ship < route { ship } else { route }
 }

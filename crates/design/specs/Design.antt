@@ -31,7 +31,7 @@ use Rattle.width.specs.declared.Bend.{Bend}
 use Rattle.width.specs.declared.Bend.the-variants.{Widening, TooTight}
 use Rattle.width.specs.declared.WidthFound.{WidthFound}
 use Rattle.width.specs.declared.WidthFound.the-variants.{Found as WidthOf, NoEntry}
-use Rattle.class.specs.Class.{shipClass, widthClass, depthClass}
+use Rattle.class.specs.Classes.{shipClass, widthClass, depthClass}
 use Rattle.design.specs.declared.Figures.{Figures}
 use Rattle.design.specs.declared.Reason.{Reason}
 use Rattle.design.specs.declared.Reason.the-variants.{WrongLength, SpareBitSet, BadField, WrongTable, TooFewReadings, RangeTooWide, BendTooTight, NoWidthEntry, NoCut}
@@ -89,7 +89,7 @@ figuresOf deadweight level lanes depth width widening =
       widening = widening;
       columns = depth .columns;
       ship = shipClass deadweight;
-      wide = widthClass width lanes;
+      wide = widthClass lanes width;
       deep = depthClass (depth .sailing);
     }
 

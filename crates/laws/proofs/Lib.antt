@@ -4,3 +4,5 @@ pub mod Extremes
 pub mod First
 pub mod Every
 pub mod Unique
+pub mod Quotients
+pub mod Rising

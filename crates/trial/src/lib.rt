@@ -2,3 +2,4 @@
 mod depths;
 mod gauges;
 mod sheets;
+mod widths;

@@ -1,8 +1,8 @@
 -- A bend's figures: the least radius in lengths, the bounds of the widening's products, and the widening as it is worked.
 -- Assumes nothing.
-use mathlib.Core.Path.{_≡_, sym, ap, _∙_}
+use mathlib.Core.Path.{_≡_, refl, sym, _∙_}
 use mathlib.Core.Bool.{Bool, true, false}
-use Prim.Native.Nat.{ℕ, _+_, _-_, _*_, _/_, _%_, _≤_, _<_}
+use Prim.Native.Nat.{ℕ, _*_, _/_, _%_, _≤_, _<_}
 use native.Mathlib.Nat.{mul-le-mul, mul-le-mul-left, mul-le-mul-right}
 use native.Mathlib.Omega.{arith}
 use borrow.Author.Tests.{eq-eqb, ne-eqb, lt-ltb, le-ltb}
@@ -14,7 +14,7 @@ use Rattle.lanes.specs.declared.Lanes.{Lanes}
 use Rattle.lanes.specs.declared.Lanes.the-variants.{One, Two}
 use Rattle.width.specs.Bends.{leastLengths, laneCount, wideningOf, bendOf, LongEnough}
 use Rattle.width.specs.declared.Bend.the-variants.{Widening, TooTight}
-use Rattle.width.proofs.Quotients.{up-factor, up-twice}
+use Rattle.laws.proofs.Quotients.{up-factor, up-twice}
 
 -- the least radius is 3 to 10 lengths
 pub lengths-within : (turn : ℕ) → (3 ≤ leastLengths turn) × (leastLengths turn ≤ 10)
@@ -73,6 +73,10 @@ widening-is turn radius length knots lanes count scaled h n s =
     let whole = 1143 * turn * (knots * knots) * count * (length * length) in
     rw (s, ← n, ← top, ← bottom)
     (up-twice whole 305750000 radius (omega arith) h ∙ sym (up-factor 8 whole (305750000 * radius) (omega arith) (omega arith)))
+
+pub straight-always : (radius length knots : ℕ) (lanes : Lanes) → bendOf 0 radius length knots lanes ≡ Widening 0
+unfolding bendOf
+straight-always radius length knots lanes = refl
 
 -- the ways out of a bend
 module _ (turn radius length knots : ℕ) (lanes : Lanes) where

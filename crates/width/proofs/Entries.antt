@@ -1,6 +1,6 @@
 -- The ways out of the entries, the items and the width: what each answer comes to, from the entries that were found.
 -- Assumes nothing.
-use mathlib.Core.Path.{_≡_, sym, ap, _∙_}
+use mathlib.Core.Path.{_≡_, ap, _∙_}
 use mathlib.Core.Bool.{true, false, _&&_}
 use Prim.Native.Nat.{ℕ, _+_, _*_, _/_}
 use Rattle.sheet.specs.declared.CrossCurrent.{CrossCurrent}

@@ -2,5 +2,8 @@ pub mod Banks
 pub mod Tables
 pub mod Entries
 pub mod Totals
-pub mod Quotients
 pub mod Curves
+pub mod Growth
+pub mod Meaning
+pub mod Cases
+pub mod Promises

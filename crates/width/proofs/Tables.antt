@@ -3,7 +3,7 @@
 use mathlib.Core.Path.{_≡_, refl}
 use mathlib.Core.Bool.{Bool, true, false}
 use mathlib.Core.List.{List, [], _∷_}
-use Prim.Native.Nat.{ℕ, _+_, _≤_, _<_}
+use Prim.Native.Nat.{ℕ, _+_}
 use native.Mathlib.Omega.{arith}
 use borrow.Author.Tests.{ltb-true, leb-true, leb-false}
 use lib.Dec.{leb, ltb}
@@ -17,7 +17,6 @@ use Rattle.width.specs.declared.Water.{Water}
 use Rattle.width.specs.declared.Water.the-variants.{Open, Sheltered}
 use Rattle.width.specs.declared.SpeedBand.{SpeedBand}
 use Rattle.width.specs.declared.SpeedBand.the-variants.{Moderate, Slow}
-use Rattle.width.specs.declared.Entry.{Entry}
 use Rattle.width.specs.declared.Entry.the-variants.{Tenths, Blank}
 
 abbrev crossTable : List (List ℕ)
@@ -31,27 +30,6 @@ waveTable = (0 ∷ 0 ∷ 0 ∷ 0 ∷ []) ∷ (10 ∷ 5 ∷ 255 ∷ 255 ∷ []) �
 
 abbrev at : List (List ℕ) → ℕ → ℕ → ℕ
 at table row column = getD (getD table row []) column 0
-
--- every row and column that is asked for is in its table
-pub from-within : (start figure : ℕ) → from start figure ≤ 1
-from-within start figure = go (ltb figure start)
-  where
-    go : (b : Bool) → (if b then 0 else 1) ≤ 1
-    go true = omega arith
-    go false = omega arith
-
-pub over-within : (end figure : ℕ) → over end figure ≤ 1
-over-within end figure = go (leb figure end)
-  where
-    go : (b : Bool) → (if b then 0 else 1) ≤ 1
-    go true = omega arith
-    go false = omega arith
-
-pub column-within : (water : Water) (band : SpeedBand) → columnOf water band < 4
-column-within Open Moderate = omega arith
-column-within Open Slow = omega arith
-column-within Sheltered Moderate = omega arith
-column-within Sheltered Slow = omega arith
 
 -- what holds in the four columns holds in each water and at each speed
 columns : (P : Water → SpeedBand → Type 0) → P Open Moderate → P Open Slow → P Sheltered Moderate → P Sheltered Slow

@@ -3,4 +3,5 @@ pub mod Bands
 pub mod Additions
 pub mod Width
 pub mod Bends
+pub mod Comparing
 pub mod Rows

@@ -63,7 +63,7 @@ widthFrom stretch NoItems = NoEntry
 unfoldable pub widthOf : Stretch → WidthFound
 widthOf stretch = widthFrom stretch (itemsOf stretch)
 
--- the paper's number of each answer
+-- the number (section 8) of each answer
 abbrev pub widthNumber : WidthFound → ℕ
 widthNumber (Found cm) = 0
 widthNumber NoEntry = 8

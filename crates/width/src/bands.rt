@@ -1,5 +1,6 @@
 // The bands of currents and waves, looked up by a row that counts the bands passed (definition, section 5.2).
 ghost use mathlib.Core.Path.{_≡_};
+ghost use Prim.Native.Nat.{_≤_, _<_};
 ghost use Rattle.width.specs.Bands.{crossEntry, alongItem, waveEntry};
 ghost use Rattle.width.specs.Rows.{from, over, columnOf, entryOf};
 use crate::Entry;
@@ -29,6 +30,7 @@ const WAVE: [[u8; 4]; 3] = [[0, 0, 0, 0], [10, 5, 255, 255], [22, 15, 255, 255]]
 // One row further from a figure on.
 fn from(start: u16, figure: u16) -> usize
     ensures { λ r. ⌜ r ≡ from start figure ⌝ }
+    ensures { λ r. ⌜ r ≤ 1 ⌝ }
 {
     if figure < start { 0 } else { 1 }
 }
@@ -36,12 +38,14 @@ fn from(start: u16, figure: u16) -> usize
 // One row further over a figure.
 fn over(end: u16, figure: u16) -> usize
     ensures { λ r. ⌜ r ≡ over end figure ⌝ }
+    ensures { λ r. ⌜ r ≤ 1 ⌝ }
 {
     if figure <= end { 0 } else { 1 }
 }
 
 fn column_of(water: Water, band: SpeedBand) -> usize
     ensures { λ r. ⌜ r ≡ columnOf water band ⌝ }
+    ensures { λ r. ⌜ r < 4 ⌝ }
 {
     match water {
         Water::Open => match band {

@@ -85,7 +85,7 @@ pub enum Bend {
     TooTight,
 }
 
-pub fn water_of(water: u8) -> Water
+fn water_of(water: u8) -> Water
     ensures { λ r. ⌜ r ≡ waterOf water ⌝ }
 {
     if water == 1 {
@@ -95,7 +95,7 @@ pub fn water_of(water: u8) -> Water
     }
 }
 
-pub fn speed_band_of(speed: u8) -> SpeedBand
+fn speed_band_of(speed: u8) -> SpeedBand
     ensures { λ r. ⌜ r ≡ speedBandOf speed ⌝ }
 {
     if speed < 8 {

@@ -1,16 +1,17 @@
--- `class::route_class` meets its contract: the smaller of the two.
+-- `class::route_class` meets its contract: a way out for each case of the definition.
 -- Assumes nothing.
-use Rattle.class.proofs.Routes.{smaller-ship, no-smaller}
+use borrow.Author.Tests.{lt-ltb, le-ltb}
+use Rattle.class.specs.Classes.{withShip}
 use Rattle.class.proofs.route_class.Statement.{statement}
 use Rattle.class.proofs.route_class.Tie as tie
-use Rattle.class.proofs.route_class.Reads as reads
-use Rattle.class.proofs.route_class.Lts as lts
 
 returns : tie.Need-returns
-returns c = smaller-ship _ _ (c .if1 .taken)
+unfolding withShip
+returns c = rw (lt-ltb _ _ (c .if1 .taken))
 
 returns-2 : tie.Need-returns-2
-returns-2 c = no-smaller _ _ (c .if1 .left)
+unfolding withShip
+returns-2 c = rw (le-ltb _ _ (c .if1 .left))
 
 pub route-class-spec : {M : Type 1} → statement M
 route-class-spec = tie.close (tie.spec returns returns-2)

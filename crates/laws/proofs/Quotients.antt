@@ -1,11 +1,16 @@
--- Laws of a rounded quotient: a common factor, a quotient in two steps, and one in two parts.
+-- Laws of a rounded quotient: that it is the least, a common factor, a quotient in two steps, and one in two parts.
 -- Assumes nothing.
 use mathlib.Core.Path.{_≡_, sym, ap, _∙_}
 use Prim.Native.Nat.{ℕ, _+_, _-_, _*_, _/_, _%_, _≤_, _<_}
 use native.Mathlib.Nat.{le-antisymm, le-refl, mul-assoc, mul-comm, add-mul, div-add-mod', mul-le-mul-left, le-of-mul-le-mul-left, mul-pos, add-mul-div-right, add-comm}
 use native.Mathlib.Omega.{arith}
+use Rattle.laws.specs.Extremes.{Least}
 use Rattle.laws.specs.Rounding.{up}
-use Rattle.laws.proofs.Rounding.{up-le}
+use Rattle.laws.proofs.Rounding.{up-le, up-reaches}
+
+-- the rounded quotient is the least number whose multiple reaches a
+pub up-least : (a k : ℕ) → 0 < k → Least (λ (x : ℕ). a ≤ x * k) (up a k)
+up-least a k h = record { holds = up-reaches a k h; least = λ x p. up-le a k x h .1 p }
 
 -- numbers that are at most the same numbers are one
 same-bounds : (a b : ℕ) → ((x : ℕ) → a ≤ x → b ≤ x) → ((x : ℕ) → b ≤ x → a ≤ x) → a ≡ b

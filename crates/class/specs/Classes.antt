@@ -1,0 +1,42 @@
+-- Classes, 0 special to 4 (section 7).
+use mathlib.Core.List.{List, foldl}
+use Prim.Native.Nat.{ℕ, _≤_, _<_}
+use Rattle.laws.specs.Choice.{if_then_else_, _≤ᵇ_, _<ᵇ_}
+use Rattle.datum.specs.declared.BelowLevel.{BelowLevel}
+use Rattle.lanes.specs.declared.Lanes.{Lanes}
+use Rattle.lanes.specs.declared.Lanes.the-variants.{One, Two}
+
+-- from four figures, 0, 1, 2 and 3; under the last, 4
+unfoldable pub classBy : ℕ → ℕ → ℕ → ℕ → ℕ → ℕ
+classBy special first second third figure =
+    if special ≤ᵇ figure then 0 else
+    (if first ≤ᵇ figure then 1 else (if second ≤ᵇ figure then 2 else (if third ≤ᵇ figure then 3 else 4)))
+
+-- ship from 40,000, 20,000, 10,000, 5,000 t
+abbrev pub shipClass : ℕ → ℕ
+shipClass deadweight = classBy 40000 20000 10000 5000 deadweight
+
+-- width without widening from 110, 90, 70, 50 m, or 240, 200, 160, 120 for two lanes
+abbrev pub widthClass : Lanes → ℕ → ℕ
+widthClass One width = classBy 11000 9000 7000 5000 width
+widthClass Two width = classBy 24000 20000 16000 12000 width
+
+-- depth by s from 14, 11, 9, 8 m
+abbrev pub depthClass : BelowLevel → ℕ
+depthClass s = classBy 1400 1100 900 800 (s .0)
+
+-- what it means, without a method: the figure reaches the class and not the one before it
+pub data InClass (special first second third figure : ℕ) : ℕ → Type 0 where
+  is-special : special ≤ figure → InClass special first second third figure 0
+  is-first : first ≤ figure → figure < special → InClass special first second third figure 1
+  is-second : second ≤ figure → figure < first → InClass special first second third figure 2
+  is-third : third ≤ figure → figure < second → InClass special first second third figure 3
+  is-last : figure < third → InClass special first second third figure 4
+
+-- the smaller of a route's class and a ship's
+unfoldable pub withShip : ℕ → ℕ → ℕ
+withShip route ship = if ship <ᵇ route then ship else route
+
+-- the route takes the smallest ship class of its answered stretches, 5 if none is answered
+abbrev pub routeClass : List ℕ → ℕ
+routeClass ships = foldl withShip 5 ships
