@@ -1,3 +1,4 @@
 -- The design: definition, section 8.
 pub mod Design
 pub mod Numbers
+pub mod Refusals
