@@ -43,8 +43,8 @@ pub record SomeBad (bytes : List ℕ) : Type 0 where
   pub bad : Bad (groupsOf bytes) field
 
 -- 4, 5, 6: a fault of the table, when the level is read off it
-pub record OffRecord (s : Sheet) (Fault : Type 0) : Type 0 where
-  pub source : s .level ≡ FromRecord
+pub record OffRecord (source : LevelSource) (Fault : Type 0) : Type 0 where
+  pub off : source ≡ FromRecord
   pub fault : Fault
 
 -- 7: bend too tight, which is a turn with a radius under the least; the radius is in m and the length in cm
@@ -67,9 +67,9 @@ Row bytes table number =
     if number =ᵇ 1 then NotSheetLong bytes else
     (if number =ᵇ 2 then SpareSet bytes else
     (if number =ᵇ 3 then SomeBad bytes else
-    (if number =ᵇ 4 then OffRecord (sheetIn bytes) (TableUnfit table) else
-    (if number =ᵇ 5 then OffRecord (sheetIn bytes) (RecordShort table) else
-    (if number =ᵇ 6 then OffRecord (sheetIn bytes) (RangeWide table) else
+    (if number =ᵇ 4 then OffRecord (sheetIn bytes .level) (TableUnfit table) else
+    (if number =ᵇ 5 then OffRecord (sheetIn bytes .level) (RecordShort table) else
+    (if number =ᵇ 6 then OffRecord (sheetIn bytes .level) (RangeWide table) else
     (if number =ᵇ 7 then TightBend (sheetIn bytes) else
     (if number =ᵇ 8 then EntryMissing (sheetIn bytes) else
     (if number =ᵇ 9 then NoneMeets (sheetIn bytes) (levelIn (sheetIn bytes) table) else ⊥))))))))
