@@ -7,7 +7,8 @@ use Prim.Native.Nat.{ℕ, _+_, _≤_, _<_}
 use native.Mathlib.Nat.{not-suc-le-zero}
 use native.Mathlib.Omega.{arith}
 use borrow.Author.Count.{below-more}
-use lib.IntN.{ℤ, pos}
+use lib.IntN.{pos}
+use lib.ListN.{length}
 use Rattle.laws.specs.Choice.{if_then_else_}
 use Rattle.datum.specs.declared.Level.{Level}
 use Rattle.sheet.specs.Packing.{groupsOf, Bytes}
@@ -20,19 +21,23 @@ use Rattle.sheet.proofs.Reading.{wrong-length-exactly, spare-exactly, bad-field
 use Rattle.gauge.specs.Designing.{designLevel}
 use Rattle.gauge.specs.declared.LevelRead.{LevelRead}
 use Rattle.lanes.specs.declared.Lanes.{Lanes}
-use Rattle.depth.specs.Depth.{AsDefined}
-use Rattle.depth.specs.Worksheet.{workDepth}
+use Rattle.depth.specs.Depth.{AsDefined, Figures as Meant}
+use Rattle.depth.specs.Worksheet.{tries, workDepth, Counted}
+use Rattle.depth.specs.declared.Stretch.{Stretch as DepthStretch}
 use Rattle.depth.specs.declared.Depth.{Depth}
 use Rattle.depth.specs.declared.Depth.the-variants.{Cut, NoCut as NoDepth}
 use Rattle.depth.specs.declared.DepthFigures.{DepthFigures}
-use Rattle.depth.proofs.LeastCut.{work-as-defined}
+use Rattle.depth.proofs.LeastCut.{work-as-defined, work-counted}
 use Rattle.width.specs.Bands.{hasEntries}
-use Rattle.width.specs.Bends.{bendOf}
-use Rattle.width.specs.Width.{widthOf}
+use Rattle.width.specs.Bends.{bendOf, wideningFigure}
+use Rattle.width.specs.Width.{widthOf, widthFigure}
+use Rattle.width.specs.declared.WidthFound.{WidthFound}
 use Rattle.width.specs.declared.Bend.{Bend}
-use Rattle.design.specs.Design.{depthStretch, widthStretch, figuresOf, byWidth, atDepth, byDepth, pastBend, byBend, lanesFor, atLevel, byLevel, levelFor, ofSheet, byReading, designAt, designOf}
+use Rattle.class.specs.Class.{widthClass}
+use Rattle.design.specs.Design.{widthStretch, atDepth, byDepth, pastBend, byBend, lanesFor, atLevel, byLevel, levelFor, ofSheet, byReading, designAt, designOf}
 use Rattle.design.specs.Numbers.{reasonNumber}
 use Rattle.design.specs.Refusals.{sheetIn, levelIn, Row, NoneBefore}
+use Rattle.design.specs.Answers.{stretchOf, wideningIn, FiguresAre, NamesFirst}
 use Rattle.design.specs.declared.Figures.{Figures}
 use Rattle.design.specs.declared.Reason.{Reason}
 use Rattle.design.specs.declared.Reason.the-variants.{WrongLength, SpareBitSet, BadField, WrongTable, TooFewReadings, RangeTooWide, BendTooTight, NoWidthEntry, NoCut}
@@ -42,8 +47,10 @@ use Rattle.design.proofs.RoomRows.{LevelTold, unfit, short, wide-range,
 
 -- an answer, and which row holds: that of its number and none before it, or none of the nine
 pub data Told (bytes table : List ℕ) : Answer → Type 0 where
-  refused : (r : Reason) → Row bytes table (reasonNumber r) → NoneBefore bytes table (reasonNumber r) → Told bytes table (Refused r)
-  answered : (f : Figures) → NoneBefore bytes table 10 → Told bytes table (Answered f)
+  refused : (r : Reason) → Row bytes table (reasonNumber r) → NoneBefore bytes table (reasonNumber r) → NamesFirst bytes r
+      → Told bytes table (Refused r)
+  answered : (f : Figures) → NoneBefore bytes table 10 → FiguresAre (sheetIn bytes) (levelIn (sheetIn bytes) table) f
+      → Told bytes table (Answered f)
 
 module _ (bytes table : List ℕ) where
   -- one row more that does not hold
@@ -63,55 +70,75 @@ module _ (bytes table : List ℕ) where
   abbrev lanes : Lanes
   lanes = lanesFor sheet
 
+  abbrev stretch : DepthStretch
+  stretch = stretchOf sheet level
+
   -- past 8 the width is there
-  width-told : (widening : ℤ) (depth : DepthFigures) → hasEntries (sheet .water) (sheet .speed) (sheet .cross) (sheet .wave) ≡ true
-      → NoneBefore bytes table 10 → Told bytes table (atDepth sheet level lanes widening depth)
+  width-told : (depth : DepthFigures) → Meant stretch depth → depth .columns ≡ length (tries stretch)
+      → hasEntries (sheet .water) (sheet .speed) (sheet .cross) (sheet .wave) ≡ true → NoneBefore bytes table 10
+      → Told bytes table (atDepth sheet level lanes (pos (wideningIn sheet)) depth)
   unfolding atDepth
-  width-told widening depth e before =
+  width-told depth meant count e before =
       let found = width-there (widthStretch sheet lanes (depth .sailing)) e in
-      rw (found .1) (answered _ before)
+      rw (found .1)
+      (answered _ before
+      (record {
+        level = refl;
+        lanes = refl;
+        cut = meant .cut;
+        sailing-depth = meant .sailing-depth;
+        columns = count;
+        datum-depth = refl;
+        width = ap (λ (w : WidthFound). pos (widthFigure w)) (sym (found .1));
+        widening = refl;
+        ship-class = refl;
+        width-class = ap (λ (w : WidthFound). widthClass (widthFigure w) lanes) (sym (found .1));
+        depth-class = refl;
+      }))
 
   -- 9
-  depth-told : (widening : ℤ) (d : Depth) → AsDefined (depthStretch sheet level lanes) d
+  depth-told : (d : Depth) → AsDefined stretch d → Counted stretch d
       → hasEntries (sheet .water) (sheet .speed) (sheet .cross) (sheet .wave) ≡ true → NoneBefore bytes table 9
-      → Told bytes table (byDepth sheet level lanes widening d)
+      → Told bytes table (byDepth sheet level lanes (pos (wideningIn sheet)) d)
   unfolding Row
-  depth-told widening (Cut depth) a e before =
-      width-told widening depth e (past 9 before (λ none. none (depth .cut .0) (a .cut .holds)))
-  depth-told widening NoDepth a e before = refused NoCut a before
+  depth-told (Cut depth) meant count e before =
+      width-told depth meant count e (past 9 before (λ none. none (depth .cut .0) (meant .cut .holds)))
+  depth-told NoDepth none count e before = refused NoCut none before tt
 
   -- 8
-  entries-followed : (widening : ℤ) (entries : Bool) → hasEntries (sheet .water) (sheet .speed) (sheet .cross) (sheet .wave) ≡ entries
+  entries-followed : (entries : Bool) → hasEntries (sheet .water) (sheet .speed) (sheet .cross) (sheet .wave) ≡ entries
       → EntriesTold sheet entries → NoneBefore bytes table 8
-      → Told bytes table
-      (if entries then byDepth sheet level lanes widening (workDepth (depthStretch sheet level lanes)) else Refused NoWidthEntry)
+      → Told bytes table (if entries then byDepth sheet level lanes (pos (wideningIn sheet)) (workDepth stretch) else Refused NoWidthEntry)
   unfolding Row
-  entries-followed widening true e (present there) before =
-      depth-told widening (workDepth (depthStretch sheet level lanes)) (work-as-defined (depthStretch sheet level lanes)) e (past 8 before there)
-  entries-followed widening false e (missing row) before = refused NoWidthEntry row before
+  entries-followed true e (present there) before =
+      depth-told (workDepth stretch) (work-as-defined stretch) (work-counted stretch) e (past 8 before there)
+  entries-followed false e (missing row) before = refused NoWidthEntry row before tt
 
-  past-bend-told : (widening : ℤ) → NoneBefore bytes table 8 → Told bytes table (pastBend sheet level lanes widening)
+  past-bend-told : NoneBefore bytes table 8 → Told bytes table (pastBend sheet level lanes (pos (wideningIn sheet)))
   unfolding pastBend
-  past-bend-told widening before =
-      entries-followed widening (hasEntries (sheet .water) (sheet .speed) (sheet .cross) (sheet .wave)) refl (entries-told sheet) before
+  past-bend-told before =
+      entries-followed (hasEntries (sheet .water) (sheet .speed) (sheet .cross) (sheet .wave)) refl (entries-told sheet) before
 
   -- 7
-  bend-followed : (bend : Bend) → BendTold sheet bend → NoneBefore bytes table 7 → Told bytes table (byBend sheet level lanes bend)
+  bend-followed : (bend : Bend) → bendOf (sheet .turn) (sheet .radius) (sheet .length) (sheet .speed) lanes ≡ bend → BendTold sheet bend
+      → NoneBefore bytes table 7 → Told bytes table (byBend sheet level lanes bend)
   unfolding Row
-  bend-followed bend (tight row) before = refused BendTooTight row before
-  bend-followed bend (bends wide cm) before = past-bend-told (pos cm) (past 7 before wide)
+  bend-followed bend e (tight row) before = refused BendTooTight row before tt
+  bend-followed bend e (bends wide cm) before =
+      subst (λ (widening : ℕ). Told bytes table (pastBend sheet level lanes (pos widening))) (ap wideningFigure e)
+      (past-bend-told (past 7 before wide))
 
   at-level-told : NoneBefore bytes table 7 → Told bytes table (atLevel sheet level)
   unfolding atLevel
   at-level-told before =
-      bend-followed (bendOf (sheet .turn) (sheet .radius) (sheet .length) (sheet .speed) lanes) (bend-told sheet lanes) before
+      bend-followed (bendOf (sheet .turn) (sheet .radius) (sheet .length) (sheet .speed) lanes) refl (bend-told sheet lanes) before
 
   -- 4, 5, 6
   level-followed : (read : LevelRead) → LevelTold (sheet .level) table read → NoneBefore bytes table 4 → Told bytes table (byLevel sheet read)
   unfolding Row
-  level-followed read (unfit row) before = refused WrongTable row before
-  level-followed read (short fit row) before = refused TooFewReadings row (past 4 before fit)
-  level-followed read (wide-range fit long row) before = refused RangeTooWide row (past 5 (past 4 before fit) long)
+  level-followed read (unfit row) before = refused WrongTable row before tt
+  level-followed read (short fit row) before = refused TooFewReadings row (past 4 before fit) tt
+  level-followed read (wide-range fit long row) before = refused RangeTooWide row (past 5 (past 4 before fit) long) tt
   level-followed read (had fit long narrow) before = at-level-told (past 6 (past 5 (past 4 before fit) long) narrow)
 
   of-sheet-told : NoneBefore bytes table 4 → Told bytes table (ofSheet sheet (designLevel table))
@@ -122,13 +149,13 @@ module _ (bytes table : List ℕ) where
   module _ (small : Bytes bytes) where
     reading-followed : (read : SheetRead) → readOf bytes ≡ read → Told bytes table (byReading read (designLevel table))
     unfolding Row
-    reading-followed NotSheetLong e = refused WrongLength (wrong-length-exactly bytes .0 e) from-the-first
+    reading-followed NotSheetLong e = refused WrongLength (wrong-length-exactly bytes .0 e) from-the-first tt
     reading-followed SpareBit e =
         let t = spare-exactly bytes small .0 e in
-        refused SpareBitSet (t .1) (past 1 from-the-first (λ n. n (t .0)))
+        refused SpareBitSet (t .1) (past 1 from-the-first (λ n. n (t .0))) tt
     reading-followed (FieldBad k) e =
         let t = bad-field-exactly bytes small k .0 e in
-        refused (BadField k) (record { field = k; bad = t .2 .holds }) (past 2 (past 1 from-the-first (λ n. n (t .0))) (t .1))
+        refused (BadField k) (record { field = k; bad = t .2 .holds }) (past 2 (past 1 from-the-first (λ n. n (t .0))) (t .1)) (t .2)
     reading-followed (Good s) e =
         let t = good-exactly bytes small .0 (s, e) in
         subst (λ (r : Sheet). Told bytes table (ofSheet r (designLevel table))) (accepted bytes s e .sheet)

@@ -4,5 +4,6 @@ pub mod Ways
 pub mod Zeros
 pub mod RoomRows
 pub mod Checked
+pub mod Exactly
 pub mod Starred
 pub mod Promises

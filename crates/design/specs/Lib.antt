@@ -2,3 +2,4 @@
 pub mod Design
 pub mod Numbers
 pub mod Refusals
+pub mod Answers
