@@ -1,33 +1,27 @@
--- A number is given exactly when its row holds and none checked before it does: of two rows with none before them there is one.
--- The figures of an answered sheet are the only ones. Assumes nothing.
-use mathlib.Core.Path.{_≡_, refl, sym, ap, subst, _∙_}
+-- A number is given exactly when its row holds and none checked before it does, as two rows with none before them are one;
+-- an answer exactly when no row holds, with the only figures that are so. Assumes nothing.
+use mathlib.Core.Path.{_≡_, refl, ap, subst}
 use mathlib.Core.Bool.{Bool, true, false}
 use mathlib.Core.List.{List}
 use mathlib.Core.Logic.{_↔_}
-use Prim.Native.Nat.{ℕ, _+_, _≤_, _<_}
+use Prim.Native.Nat.{ℕ, _≤_}
 use native.Mathlib.Omega.{arith}
 use borrow.Author.Tests.{ltb-true, ltb-false, ne-eqb}
 use lib.Dec.{ltb}
-use lib.IntN.{ℤ, pos}
 use Rattle.laws.specs.Extremes.{Least}
 use Rattle.laws.proofs.Extremes.{least-only}
-use Rattle.datum.specs.declared.Level.{Level}
-use Rattle.datum.specs.declared.BelowLevel.{BelowLevel}
-use Rattle.datum.specs.declared.BelowChart.{BelowChart}
 use Rattle.sheet.specs.Fields.{Bad}
 use Rattle.sheet.specs.Packing.{groupsOf, Bytes}
-use Rattle.sheet.specs.declared.Sheet.{Sheet}
-use Rattle.lanes.specs.declared.Lanes.{Lanes}
-use Rattle.depth.specs.Depth.{sailing, ownColumn, Meets}
-use Rattle.design.specs.Design.{designOf, lanesFor}
-use Rattle.design.specs.Numbers.{reasonNumber, reasonField}
+use Rattle.design.specs.Design.{designOf}
+use Rattle.design.specs.Numbers.{reasonNumber}
 use Rattle.design.specs.Refusals.{sheetIn, levelIn, Row, NoneBefore, codeOf}
-use Rattle.design.specs.Answers.{stretchOf, FiguresAre, NamesFirst}
+use Rattle.design.specs.Answers.{FiguresAre, NamesFirst}
 use Rattle.design.specs.declared.Figures.{Figures}
 use Rattle.design.specs.declared.Reason.{Reason}
 use Rattle.design.specs.declared.Reason.the-variants.{WrongLength, SpareBitSet, BadField, WrongTable, TooFewReadings, RangeTooWide, BendTooTight, NoWidthEntry, NoCut}
 use Rattle.design.specs.declared.Answer.{Answer}
 use Rattle.design.specs.declared.Answer.the-variants.{Answered, Refused}
+use Rattle.design.proofs.OnlyFigures.{figures-only}
 use Rattle.design.proofs.Checked.{Told, refused, answered, told}
 
 module _ (bytes table : List ℕ) where
@@ -82,6 +76,18 @@ module _ (bytes table : List ℕ) where
   )
   answered-told a (answered f before are) = (λ e. none-at-all before, λ none. refl)
 
+  figures-told : (f : Figures) (a : Answer) → Told bytes table a
+      → (a ≡ Answered f) ↔ (((number : ℕ) → ¬ Row bytes table number) × FiguresAre (sheetIn bytes) (levelIn (sheetIn bytes) table) f)
+  figures-told f a (refused r row before names) = (
+    (λ e. let x : _≡_ {A = ℕ} 0 1 = cc in absurd (omega arith)),
+    (λ h. absurd (h .0 (reasonNumber r) row)),
+  )
+  figures-told f a (answered g before are) = (
+    (λ e. let same : g ≡ f = cc in
+        (none-at-all before, subst (FiguresAre (sheetIn bytes) (levelIn (sheetIn bytes) table)) same are)),
+    (λ h. ap Answered (figures-only (sheetIn bytes) (levelIn (sheetIn bytes) table) g f are (h .1))),
+  )
+
   -- the first bad field is named
   field-told : (k : ℕ) (a : Answer) → Told bytes table a → (a ≡ Refused (BadField k)) ↔ (Least (Bad (groupsOf bytes)) k × NoneBefore bytes table 3)
   unfolding Row
@@ -118,3 +124,8 @@ module _ (bytes table : List ℕ) where
 
     pub field-exactly : (k : ℕ) → (designOf bytes table ≡ Refused (BadField k)) ↔ (Least (Bad (groupsOf bytes)) k × NoneBefore bytes table 3)
     field-exactly k = field-told k (designOf bytes table) (told bytes table small)
+
+    pub figures-exactly : (f : Figures)
+        → (designOf bytes table ≡ Answered f)
+        ↔ (((number : ℕ) → ¬ Row bytes table number) × FiguresAre (sheetIn bytes) (levelIn (sheetIn bytes) table) f)
+    figures-exactly f = figures-told f (designOf bytes table) (told bytes table small)
