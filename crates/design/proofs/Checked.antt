@@ -1,17 +1,16 @@
 -- Each answer of a design tells which row holds: the checks are followed in their order, and every row that is passed does not hold.
 -- Assumes nothing.
-use mathlib.Core.Path.{_≡_, refl, sym, ap, subst, _∙_}
+use mathlib.Core.Path.{_≡_, refl, sym, ap, subst}
 use mathlib.Core.Bool.{Bool, true, false}
 use mathlib.Core.List.{List}
-use Prim.Native.Nat.{ℕ, _+_, _≤_, _<_}
+use Prim.Native.Nat.{ℕ, _+_}
 use native.Mathlib.Nat.{not-suc-le-zero}
-use native.Mathlib.Omega.{arith}
 use borrow.Author.Count.{below-more}
 use lib.IntN.{pos}
 use lib.ListN.{length}
 use Rattle.laws.specs.Choice.{if_then_else_}
 use Rattle.datum.specs.declared.Level.{Level}
-use Rattle.sheet.specs.Packing.{groupsOf, Bytes}
+use Rattle.sheet.specs.Packing.{Bytes}
 use Rattle.sheet.specs.Sheets.{readOf}
 use Rattle.sheet.specs.declared.Sheet.{Sheet}
 use Rattle.sheet.specs.declared.SheetRead.{SheetRead}
@@ -30,7 +29,7 @@ use Rattle.depth.specs.declared.DepthFigures.{DepthFigures}
 use Rattle.depth.proofs.LeastCut.{work-as-defined, work-counted}
 use Rattle.width.specs.Bands.{hasEntries}
 use Rattle.width.specs.Bends.{bendOf, wideningFigure}
-use Rattle.width.specs.Width.{widthOf, widthFigure}
+use Rattle.width.specs.Width.{widthFigure}
 use Rattle.width.specs.declared.WidthFound.{WidthFound}
 use Rattle.width.specs.declared.Bend.{Bend}
 use Rattle.class.specs.Class.{widthClass}

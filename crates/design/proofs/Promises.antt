@@ -2,7 +2,7 @@
 -- `design_at` does and `numbersOf` what `numbers` does; each of `bytes` is a byte, as `Bytes` says. Assumes nothing.
 use mathlib.Core.Path.{_≡_, refl}
 use mathlib.Core.List.{List, [], _∷_, map}
-use mathlib.Core.Logic.{_↔_}
+use mathlib.Core.Logic.{_↔_, _≢_}
 use Prim.Native.Nat.{ℕ, _≤_}
 use lib.IntN.{ℤ, pos}
 use lib.ListN.{length, take, replicate}
@@ -84,6 +84,10 @@ thirteen-numbers = the-numbers.thirteen
 
 pub code-and-field-first : (a : Answer) → take 2 (numbersOf a) ≡ pos (codeOf a) ∷ pos (fieldOf a) ∷ []
 code-and-field-first = the-numbers.code-and-field
+
+-- The field is 0 unless the number is 3.
+pub field-zero-unless : (a : Answer) → codeOf a ≢ 3 → fieldOf a ≡ 0
+field-zero-unless = the-numbers.field-unless
 
 -- A number and its field name one reason.
 pub one-reason : (r t : Reason) → reasonNumber r ≡ reasonNumber t → reasonField r ≡ reasonField t → r ≡ t

@@ -1,6 +1,6 @@
 -- Past the rows 1 to 3 the bytes are read as their sheet, and past 4 to 6 it has its level: every other reading is one of those rows.
 -- Assumes nothing.
-use mathlib.Core.Path.{_≡_, refl, sym, ap, _∙_}
+use mathlib.Core.Path.{_≡_, refl, sym, ap}
 use mathlib.Core.List.{List}
 use Prim.Native.Nat.{ℕ}
 use native.Mathlib.Omega.{arith}

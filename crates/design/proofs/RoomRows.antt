@@ -30,7 +30,7 @@ use Rattle.width.specs.declared.Water.the-variants.{Open, Sheltered}
 use Rattle.width.specs.declared.SpeedBand.{SpeedBand}
 use Rattle.width.specs.declared.Entry.{Entry}
 use Rattle.width.specs.declared.Entry.the-variants.{Tenths, Blank}
-use Rattle.width.specs.declared.WidthFound.the-variants.{Found as WidthOf, NoEntry}
+use Rattle.width.specs.declared.WidthFound.the-variants.{Found as WidthOf}
 use Rattle.design.specs.Design.{levelFor}
 use Rattle.design.specs.Refusals.{levelFrom, OffRecord, TightBend, EntryMissing}
 

@@ -2,6 +2,7 @@
 -- Assumes nothing.
 use mathlib.Core.Path.{_≡_, refl, sym, ap₂, _∙_}
 use mathlib.Core.List.{[], _∷_}
+use mathlib.Core.Logic.{_≢_}
 use Prim.Native.Nat.{ℕ}
 use lib.IntN.{pos}
 use lib.ListN.{length, take, replicate}
@@ -30,6 +31,22 @@ pub code-and-field : (a : Answer) → take 2 (numbersOf a) ≡ pos (codeOf a) �
 unfolding numbersOf
 code-and-field (Answered f) = refl
 code-and-field (Refused r) = refl
+
+-- the field is 0 unless the number is 3
+field-zero : (r : Reason) → reasonNumber r ≢ 3 → reasonField r ≡ 0
+field-zero WrongLength n = refl
+field-zero SpareBitSet n = refl
+field-zero (BadField k) n = absurd (n refl)
+field-zero WrongTable n = refl
+field-zero TooFewReadings n = refl
+field-zero RangeTooWide n = refl
+field-zero BendTooTight n = refl
+field-zero NoWidthEntry n = refl
+field-zero NoCut n = refl
+
+pub field-unless : (a : Answer) → codeOf a ≢ 3 → fieldOf a ≡ 0
+field-unless (Answered f) n = refl
+field-unless (Refused r) n = field-zero r n
 
 pub thirteen : (a : Answer) → length (numbersOf a) ≡ 13
 unfolding numbersOf
