@@ -32,7 +32,7 @@ use Rattle.width.specs.Bends.{bendOf, wideningFigure}
 use Rattle.width.specs.Width.{widthFigure}
 use Rattle.width.specs.declared.WidthFound.{WidthFound}
 use Rattle.width.specs.declared.Bend.{Bend}
-use Rattle.class.specs.Class.{widthClass}
+use Rattle.class.specs.Classes.{widthClass}
 use Rattle.design.specs.Design.{widthStretch, atDepth, byDepth, pastBend, byBend, lanesFor, atLevel, byLevel, levelFor, ofSheet, byReading, designAt, designOf}
 use Rattle.design.specs.Numbers.{reasonNumber}
 use Rattle.design.specs.Refusals.{sheetIn, levelIn, Row, NoneBefore}
@@ -91,7 +91,7 @@ module _ (bytes table : List ℕ) where
         width = ap (λ (w : WidthFound). pos (widthFigure w)) (sym (found .1));
         widening = refl;
         ship-class = refl;
-        width-class = ap (λ (w : WidthFound). widthClass (widthFigure w) lanes) (sym (found .1));
+        width-class = ap (λ (w : WidthFound). widthClass lanes (widthFigure w)) (sym (found .1));
         depth-class = refl;
       }))
 

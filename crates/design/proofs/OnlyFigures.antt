@@ -11,7 +11,7 @@ use Rattle.sheet.specs.declared.Sheet.{Sheet}
 use Rattle.lanes.specs.declared.Lanes.{Lanes}
 use Rattle.depth.specs.Depth.{sailing, ownColumn, Meets}
 use Rattle.width.specs.Width.{widthOf, widthFigure}
-use Rattle.class.specs.Class.{widthClass, depthClass}
+use Rattle.class.specs.Classes.{widthClass, depthClass}
 use Rattle.design.specs.Design.{widthStretch, lanesFor}
 use Rattle.design.specs.Answers.{stretchOf, FiguresAre}
 use Rattle.design.specs.declared.Figures.{Figures}
@@ -55,5 +55,5 @@ figures-only s level f g a b =
     same-parts f g (a .level ∙ sym (b .level)) (a .lanes ∙ sym (b .lanes)) deep cut
     (a .datum-depth ∙ ap (λ (d : ℕ). datumDepth (below d) level) cut ∙ sym (b .datum-depth))
     (a .width ∙ ap (λ (d : ℕ). pos (widthAt s d)) deep ∙ sym (b .width)) (a .widening ∙ sym (b .widening)) (a .columns ∙ sym (b .columns))
-    (a .ship-class ∙ sym (b .ship-class)) (a .width-class ∙ ap (λ (d : ℕ). widthClass (widthAt s d) (lanesFor s)) deep ∙ sym (b .width-class))
+    (a .ship-class ∙ sym (b .ship-class)) (a .width-class ∙ ap (λ (d : ℕ). widthClass (lanesFor s) (widthAt s d)) deep ∙ sym (b .width-class))
     (a .depth-class ∙ ap (λ (d : ℕ). depthClass (below d)) deep ∙ sym (b .depth-class))

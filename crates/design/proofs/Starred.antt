@@ -24,7 +24,7 @@ use Rattle.width.specs.Bands.{waterOf, speedBandOf, crossEntry, alongItem, wave
 use Rattle.width.specs.Additions.{laneItem, windItem, aidsItem, bedItem, depthItem, cargoItem, bankItem, banksItem, passingItem, trafficItem}
 use Rattle.width.specs.Width.{itemsOf, tenthsOf, widthOf}
 use Rattle.width.specs.Bends.{leastLengths, wideningOf, bendOf}
-use Rattle.class.specs.Class.{classFrom}
+use Rattle.class.specs.Classes.{classBy}
 use Rattle.design.specs.Design.{atDepth, pastBend, atLevel, ofSheet, designAt, designOf}
 use Rattle.design.specs.Numbers.{numbersOf}
 
@@ -173,5 +173,5 @@ starred-read = refl
 
 -- no case has its level off the record, so the table may be any
 pub starred : (table : List ℕ) → map (λ (bytes : List ℕ). numbersOf (designOf bytes table)) cases ≡ lines
-unfolding starts joined cut firstFrom fields fieldAt width least greatest pairBad badAt firstBad listed numberOf groupsOf levelSourceOf sheetOf readGroups readOf squatEntry z3 z4 columnOf sailing sailingWith siltTo figure columnTry findingOf movesOn walk tries answerOf workDepth intervalOf naturalDepth datumDepth byTraffic lanesOf waterOf speedBandOf crossEntry alongItem waveEntry hasEntries laneItem windItem aidsItem bedItem depthItem cargoItem bankItem banksItem passingItem trafficItem itemsOf tenthsOf widthOf leastLengths wideningOf bendOf classFrom atDepth pastBend atLevel ofSheet designAt designOf numbersOf
+unfolding starts joined cut firstFrom fields fieldAt width least greatest pairBad badAt firstBad listed numberOf groupsOf levelSourceOf sheetOf readGroups readOf squatEntry z3 z4 columnOf sailing sailingWith siltTo figure columnTry findingOf movesOn walk tries answerOf workDepth intervalOf naturalDepth datumDepth byTraffic lanesOf waterOf speedBandOf crossEntry alongItem waveEntry hasEntries laneItem windItem aidsItem bedItem depthItem cargoItem bankItem banksItem passingItem trafficItem itemsOf tenthsOf widthOf leastLengths wideningOf bendOf classBy atDepth pastBend atLevel ofSheet designAt designOf numbersOf
 starred table = refl

@@ -15,7 +15,7 @@ use Rattle.depth.specs.Worksheet.{tries}
 use Rattle.depth.specs.declared.Stretch.{Stretch as DepthStretch}
 use Rattle.width.specs.Bends.{bendOf, wideningFigure}
 use Rattle.width.specs.Width.{widthOf, widthFigure}
-use Rattle.class.specs.Class.{shipClass, widthClass, depthClass}
+use Rattle.class.specs.Classes.{shipClass, widthClass, depthClass}
 use Rattle.design.specs.Design.{depthStretch, widthStretch, lanesFor}
 use Rattle.design.specs.declared.Figures.{Figures}
 use Rattle.design.specs.declared.Reason.{Reason}
@@ -47,7 +47,7 @@ pub record FiguresAre (s : Sheet) (design-level : Level) (f : Figures) : Type 0 
   pub width : f .width ≡ pos (widthIn s f)
   pub widening : f .widening ≡ pos (wideningIn s)
   pub ship-class : f .ship ≡ shipClass (s .deadweight)
-  pub width-class : f .wide ≡ widthClass (widthIn s f) (lanesFor s)
+  pub width-class : f .wide ≡ widthClass (lanesFor s) (widthIn s f)
   pub depth-class : f .deep ≡ depthClass (f .sailing)
 
 -- a bad field that is named is the first; no other reason names one
