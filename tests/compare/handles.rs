@@ -13,6 +13,9 @@ pub enum Handle {
     Depth,
     Worksheet,
     Plans,
+    Items,
+    Width,
+    Bend,
 }
 
 pub struct Handles {

@@ -13,6 +13,7 @@ mod printing;
 mod program;
 mod report;
 mod sheets;
+mod widths;
 
 fn main() {
     let name = std::env::args().nth(1).unwrap_or_default();
@@ -22,6 +23,7 @@ fn main() {
         "adding-readings" => gauges::adding(),
         "design-levels" => gauges::levels(),
         "depths" => depths::depths(),
+        "widths" => widths::widths(),
         "plans" => plans::plans(),
         "printing" => printing::printing(),
         _ => {

@@ -1,3 +1,11 @@
 pub mod Rows
 pub mod Sizes
 pub mod Ways
+pub mod Zeros
+pub mod RoomRows
+pub mod Readings
+pub mod Checked
+pub mod OnlyFigures
+pub mod Exactly
+pub mod Starred
+pub mod Promises

@@ -1,3 +1,5 @@
 -- The design: definition, section 8.
 pub mod Design
 pub mod Numbers
+pub mod Refusals
+pub mod Answers

@@ -1,0 +1,122 @@
+-- What a design promises (sections 8, 9 and 11), each cited from its proof. `designOf` is what `design` ensures, `designAt` what
+-- `design_at` does and `numbersOf` what `numbers` does; each of `bytes` is a byte, as `Bytes` says. Assumes nothing.
+use mathlib.Core.Path.{_≡_, refl}
+use mathlib.Core.List.{List, [], _∷_, map}
+use mathlib.Core.Logic.{_↔_, _≢_}
+use Prim.Native.Nat.{ℕ, _≤_}
+use lib.IntN.{ℤ, pos}
+use lib.ListN.{length, take, replicate}
+use Rattle.laws.specs.Extremes.{Least}
+use Rattle.laws.proofs.Unique.{one-answer}
+use Rattle.datum.specs.Datum.{levelOf}
+use Rattle.datum.specs.declared.Level.{Level}
+use Rattle.sheet.specs.Fields.{Bad}
+use Rattle.sheet.specs.Packing.{groupsOf, Bytes}
+use Rattle.sheet.specs.Sheets.{readOf}
+use Rattle.sheet.specs.declared.Sheet.{Sheet}
+use Rattle.sheet.specs.declared.SheetRead.the-variants.{Good}
+use Rattle.gauge.specs.Designing.{designLevel}
+use Rattle.gauge.specs.declared.LevelRead.{LevelRead}
+use Rattle.gauge.specs.declared.LevelRead.the-variants.{Found as LevelFound, WrongTable as TableWrong}
+use Rattle.design.specs.Design.{levelFor, designAt, designOf}
+use Rattle.design.specs.Numbers.{reasonNumber, reasonField, laneNumber, numbersOf}
+use Rattle.design.specs.Refusals.{sheetIn, levelIn, Row, NoneBefore, codeOf, fieldOf}
+use Rattle.design.specs.Answers.{FiguresAre}
+use Rattle.design.specs.declared.Figures.{Figures}
+use Rattle.design.specs.declared.Reason.{Reason}
+use Rattle.design.specs.declared.Reason.the-variants.{BadField}
+use Rattle.design.specs.declared.Answer.{Answer}
+use Rattle.design.specs.declared.Answer.the-variants.{Answered, Refused}
+use Rattle.design.proofs.Zeros as the-numbers
+use Rattle.design.proofs.Readings.{sheet-read, level-read}
+use Rattle.design.proofs.OnlyFigures.{figures-only}
+use Rattle.design.proofs.Exactly.{number-exactly, zero-exactly, field-exactly, figures-exactly}
+use Rattle.design.proofs.Starred as the-starred
+
+-- The numbers that turn a sheet away
+module _ (bytes table : List ℕ) (small : Bytes bytes) where
+  -- A number is given exactly when its row holds and none checked before it does.
+  pub number-given : (number : ℕ) → 1 ≤ number → (codeOf (designOf bytes table) ≡ number) ↔ (Row bytes table number × NoneBefore bytes table number)
+  number-given = number-exactly bytes table small
+
+  -- Every other call is answered.
+  pub else-answered : (codeOf (designOf bytes table) ≡ 0) ↔ ((number : ℕ) → ¬ Row bytes table number)
+  else-answered = zero-exactly bytes table small
+
+  -- 3: the first bad field's number is given.
+  pub first-bad-field : (k : ℕ) → (designOf bytes table ≡ Refused (BadField k)) ↔ (Least (Bad (groupsOf bytes)) k × NoneBefore bytes table 3)
+  first-bad-field = field-exactly bytes table small
+
+  -- An answered design has the figures of its sheet at its level: level, lanes, least cut and its s, columns tried, datum depth, width,
+  -- widening and classes; no other answer has them.
+  pub answered-exactly : (f : Figures)
+      → (designOf bytes table ≡ Answered f)
+      ↔ (((number : ℕ) → ¬ Row bytes table number) × FiguresAre (sheetIn bytes) (levelIn (sheetIn bytes) table) f)
+  answered-exactly = figures-exactly bytes table small
+
+  -- Past 1, 2 and 3 the bytes are read as the sheet of which the later rows speak.
+  pub sheet-is-read : NoneBefore bytes table 4 → readOf bytes ≡ Good (sheetIn bytes)
+  sheet-is-read = sheet-read bytes table small
+
+-- Past 4, 5 and 6 the sheet has its level: its own, or the one read off the table.
+pub level-is-had : (bytes table : List ℕ) → NoneBefore bytes table 7
+    → levelFor (sheetIn bytes .level) (designLevel table) ≡ LevelFound (levelIn (sheetIn bytes) table)
+level-is-had = level-read
+
+-- A sheet has one row of figures at a level.
+pub one-row-of-figures : (s : Sheet) (level : Level) (f g : Figures) → FiguresAre s level f → FiguresAre s level g → f ≡ g
+one-row-of-figures = figures-only
+
+-- A design over a table is the design at the level that the table gives.
+pub table-gives-level : (bytes table : List ℕ) → designOf bytes table ≡ designAt bytes (designLevel table)
+unfolding designOf
+table-gives-level bytes table = refl
+
+-- A design at refusal 4 is the design over a table of no slots.
+pub no-table : (bytes : List ℕ) → designAt bytes TableWrong ≡ designOf bytes []
+unfolding designOf designLevel
+no-table bytes = refl
+
+-- The thirteen numbers
+-- The answer is 0 or the number, the field, and the figures.
+pub thirteen-numbers : (a : Answer) → length (numbersOf a) ≡ 13
+thirteen-numbers = the-numbers.thirteen
+
+pub code-and-field-first : (a : Answer) → take 2 (numbersOf a) ≡ pos (codeOf a) ∷ pos (fieldOf a) ∷ []
+code-and-field-first = the-numbers.code-and-field
+
+-- The field is 0 unless the number is 3.
+pub field-zero-unless : (a : Answer) → codeOf a ≢ 3 → fieldOf a ≡ 0
+field-zero-unless = the-numbers.field-unless
+
+-- A number and its field name one reason.
+pub one-reason : (r t : Reason) → reasonNumber r ≡ reasonNumber t → reasonField r ≡ reasonField t → r ≡ t
+one-reason = the-numbers.one-reason
+
+-- A refused design has its number, its field and eleven figures that are 0.
+pub refused-figures-zero : (r : Reason) → numbersOf (Refused r) ≡ pos (reasonNumber r) ∷ pos (reasonField r) ∷ replicate 11 (pos 0)
+refused-figures-zero = the-numbers.refused-zeros
+
+-- An answered one has code 0, field 0, and its level, lanes, s, cut, datum depth, width, widening, columns tried and three classes.
+pub answered-figures : (f : Figures)
+    → numbersOf (Answered f)
+    ≡ pos 0 ∷ pos 0 ∷ levelOf (f .level) ∷ pos (laneNumber (f .lanes)) ∷ pos (f .sailing .0) ∷ pos (f .cut .0) ∷ f .datum .0 ∷ f .width
+    ∷ f .widening ∷ pos (f .columns) ∷ pos (f .ship) ∷ pos (f .wide) ∷ pos (f .deep) ∷ []
+answered-figures = the-numbers.answered-numbers
+
+-- Each call has one result.
+pub design-unique : (bytes table : List ℕ) (r s : Answer) → r ≡ designOf bytes table → s ≡ designOf bytes table → r ≡ s
+design-unique bytes table = one-answer
+
+pub design-at-unique : (bytes : List ℕ) (read : LevelRead) (r s : Answer) → r ≡ designAt bytes read → s ≡ designAt bytes read → r ≡ s
+design-at-unique bytes read = one-answer
+
+pub numbers-unique : (design : Answer) (r s : List ℤ) → r ≡ numbersOf design → s ≡ numbersOf design → r ≡ s
+numbers-unique design = one-answer
+
+-- The starred cases, from their bytes: the sheets that they are read as, and their thirteen numbers over any table, as their levels are given.
+pub starred-sheets : map readOf the-starred.cases ≡ the-starred.sheets
+starred-sheets = the-starred.starred-read
+
+pub starred : (table : List ℕ) → map (λ (bytes : List ℕ). numbersOf (designOf bytes table)) the-starred.cases ≡ the-starred.lines
+starred = the-starred.starred

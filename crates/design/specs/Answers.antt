@@ -1,0 +1,63 @@
+-- What the figures of an answered sheet are (sections 3 to 7), and which field a refusal names (section 8).
+use mathlib.Core.Path.{_≡_}
+use mathlib.Core.List.{List}
+use Prim.Native.Nat.{ℕ}
+use lib.IntN.{pos}
+use lib.ListN.{length}
+use Rattle.laws.specs.Extremes.{Least}
+use Rattle.datum.specs.Datum.{datumDepth}
+use Rattle.datum.specs.declared.Level.{Level}
+use Rattle.sheet.specs.Fields.{Bad}
+use Rattle.sheet.specs.Packing.{groupsOf}
+use Rattle.sheet.specs.declared.Sheet.{Sheet}
+use Rattle.depth.specs.Depth.{sailing, ownColumn, Meets}
+use Rattle.depth.specs.Worksheet.{tries}
+use Rattle.depth.specs.declared.Stretch.{Stretch as DepthStretch}
+use Rattle.width.specs.Bends.{bendOf, wideningFigure}
+use Rattle.width.specs.Width.{widthOf, widthFigure}
+use Rattle.class.specs.Classes.{shipClass, widthClass, depthClass}
+use Rattle.design.specs.Design.{depthStretch, widthStretch, lanesFor}
+use Rattle.design.specs.declared.Figures.{Figures}
+use Rattle.design.specs.declared.Reason.{Reason}
+use Rattle.design.specs.declared.Reason.the-variants.{WrongLength, SpareBitSet, BadField, WrongTable, TooFewReadings, RangeTooWide, BendTooTight, NoWidthEntry, NoCut}
+
+-- the stretch whose depth a sheet asks for at a level, in the lanes of the lane rule
+abbrev pub stretchOf : Sheet → Level → DepthStretch
+stretchOf s level = depthStretch s level (lanesFor s)
+
+-- the width of a sheet at its sailing depth, and its widening
+abbrev pub widthIn : Sheet → Figures → ℕ
+widthIn s f = widthFigure (widthOf (widthStretch s (lanesFor s) (f .sailing)))
+
+abbrev pub wideningIn : Sheet → ℕ
+wideningIn s = wideningFigure (bendOf (s .turn) (s .radius) (s .length) (s .speed) (lanesFor s))
+
+-- the figures of a sheet at a level are these, and no others
+pub record FiguresAre (s : Sheet) (design-level : Level) (f : Figures) : Type 0 where
+  pub level : f .level ≡ design-level
+  -- by the lane rule
+  pub lanes : f .lanes ≡ lanesFor s
+  -- the least cut that meets the definition, and the s of its column
+  pub cut : Least (Meets (stretchOf s design-level)) (f .cut .0)
+  pub sailing-depth : f .sailing .0 ≡ sailing (stretchOf s design-level) (ownColumn (stretchOf s design-level) (f .cut .0))
+  -- as many as the worksheet tries
+  pub columns : f .columns ≡ length (tries (stretchOf s design-level))
+  pub datum-depth : f .datum ≡ datumDepth (f .cut) design-level
+  -- the width without widening, and the widening apart
+  pub width : f .width ≡ pos (widthIn s f)
+  pub widening : f .widening ≡ pos (wideningIn s)
+  pub ship-class : f .ship ≡ shipClass (s .deadweight)
+  pub width-class : f .wide ≡ widthClass (lanesFor s) (widthIn s f)
+  pub depth-class : f .deep ≡ depthClass (f .sailing)
+
+-- a bad field that is named is the first; no other reason names one
+abbrev pub NamesFirst : List ℕ → Reason → Type 0
+NamesFirst bytes WrongLength = Unit {0}
+NamesFirst bytes SpareBitSet = Unit {0}
+NamesFirst bytes (BadField k) = Least (Bad (groupsOf bytes)) k
+NamesFirst bytes WrongTable = Unit {0}
+NamesFirst bytes TooFewReadings = Unit {0}
+NamesFirst bytes RangeTooWide = Unit {0}
+NamesFirst bytes BendTooTight = Unit {0}
+NamesFirst bytes NoWidthEntry = Unit {0}
+NamesFirst bytes NoCut = Unit {0}
