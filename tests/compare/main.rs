@@ -14,6 +14,7 @@ mod program;
 mod report;
 mod sheets;
 mod widths;
+mod worked;
 
 fn main() {
     let name = std::env::args().nth(1).unwrap_or_default();
@@ -24,6 +25,7 @@ fn main() {
         "design-levels" => gauges::levels(),
         "depths" => depths::depths(),
         "widths" => widths::widths(),
+        "worked-examples" => worked::worked(),
         "plans" => plans::plans(),
         "printing" => printing::printing(),
         _ => {
