@@ -12,7 +12,7 @@ use std::process::exit;
 const RECORDS: u64 = 64;
 const SHEETS: usize = 16_000;
 
-/// The line that the sheet at this place of the input has, the first line being the record's.
+/// The sheet of a line, counted from 0; the first line is the record's.
 fn sheet_of(input: &[u8], line: usize) -> String {
     let sheet = line.checked_sub(1).and_then(|k| input.chunks(BYTES).nth(k));
     sheet.map_or("no sheet".to_string(), hex)
