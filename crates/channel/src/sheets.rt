@@ -61,6 +61,18 @@ fn write_first(buffer: &[u8], count: usize) -> bool {
     }
 }
 
+// The same, and what is wrong with an output that takes no more is told; a closed one is left quietly.
+fn put_out(buffer: &[u8], count: usize) -> bool {
+    if write_first(buffer, count) {
+        return true;
+    }
+    let error = os::errno();
+    if error != libc::EPIPE && error != libc::EBADF {
+        os::fail(b"standard output");
+    }
+    false
+}
+
 // Makes room for a line: what stands in the buffer is written where too little is left.
 fn with_room(buffer: &[u8], state: State) -> State {
     let at = state.at;
@@ -68,7 +80,7 @@ fn with_room(buffer: &[u8], state: State) -> State {
     if LINE <= buffer.len() && at <= buffer.len() - LINE {
         return state;
     }
-    let open = write_first(buffer, at);
+    let open = put_out(buffer, at);
     State { at: 0, open, route }
 }
 
@@ -145,15 +157,16 @@ fn print_end(buffer: &mut [u8], state: State, failed: bool) {
     }
     if failed {
         let at = state.at;
-        write_first(buffer, at);
-        os::fail(b"standard input");
+        if put_out(buffer, at) {
+            os::fail(b"standard input");
+        }
         return;
     }
     let ready = with_room(buffer, state);
     let route = ready.route;
     let at = ready.at;
     let end = lines::put_route_line(route.sheets, route.answered, route.class, &mut *buffer, at);
-    write_first(buffer, end);
+    put_out(buffer, end);
 }
 
 // Every sheet of standard input, from a place of the buffer on.
