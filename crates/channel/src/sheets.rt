@@ -1,4 +1,6 @@
 // Sheets from standard input, each with its line, and the route's line at the end.
+ghost use mathlib.Core.Path.{_≡_};
+ghost use Rattle.channel.specs.Route.{withSheet};
 use crate::input;
 use design::Answer;
 use gauge::LevelRead;
@@ -27,25 +29,18 @@ struct State {
     route: Route,
 }
 
-// One more, as far as 64 bits hold.
-fn one_more(count: u64) -> u64 {
-    if count < 18446744073709551615 {
-        count + 1
-    } else {
-        count
-    }
-}
-
 // The route with one more sheet.
-fn with_sheet(route: Route, answer: Answer) -> Route {
+fn with_sheet(route: Route, answer: Answer) -> Route
+    ensures { λ r. ⌜ r ≡ withSheet route answer ⌝ }
+{
     match answer {
         Answer::Answered(figures) => Route {
-            sheets: one_more(route.sheets),
-            answered: one_more(route.answered),
+            sheets: record::one_more(route.sheets),
+            answered: record::one_more(route.answered),
             class: class::route_class(route.class, figures.ship),
         },
         Answer::Refused(_) => Route {
-            sheets: one_more(route.sheets),
+            sheets: record::one_more(route.sheets),
             answered: route.answered,
             class: route.class,
         },

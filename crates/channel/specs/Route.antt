@@ -1,0 +1,12 @@
+-- The route so far: its sheets, how many are answered, and its class (section 10).
+use Rattle.class.specs.Classes.{withShip}
+use Rattle.record.specs.Counting.{oneMore}
+use Rattle.design.specs.declared.Answer.{Answer}
+use Rattle.design.specs.declared.Answer.the-variants.{Answered, Refused}
+use Rattle.channel.specs.declared.sheets.Route.{Route}
+
+-- the route with one more sheet
+abbrev pub withSheet : Route → Answer → Route
+withSheet route (Answered f) =
+    record { sheets = oneMore (route .sheets); answered = oneMore (route .answered); class = withShip (route .class) (f .ship) }
+withSheet route (Refused reason) = record { sheets = oneMore (route .sheets); answered = route .answered; class = route .class }
