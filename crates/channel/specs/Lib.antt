@@ -1,3 +1,3 @@
--- What the printing program's own steps answer; no promise speaks of it.
+-- What the printing program's own steps answer.
 pub mod Input
 pub mod Route

@@ -32,7 +32,7 @@ fn got_of(answer: isize, room: usize) -> Got
 }
 
 // One read into what is left of a space.
-pub fn read_some(fd: i32, space: &mut [u8], have: usize) -> Got
+fn read_some(fd: i32, space: &mut [u8], have: usize) -> Got
     requires { ⌜ have ≤ length (now space) ⌝ }
     ensures { λ r. ⌜ GotWithin r (length (now (space .entry)) - have) ⌝ }
 {
