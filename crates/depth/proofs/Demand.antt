@@ -1,6 +1,7 @@
 -- Demand 3 for the depth, by one argument: what meets the definition for a stretch that is harder by k cm of draft and wave allowance meets it
 -- k cm higher for the other, so the least cut is deeper by k or more and no refusal is cured.
 -- Assumes nothing.
+use mathlib.Core.Path.{_≡_, subst}
 use Prim.Native.Nat.{ℕ, _+_, _-_, _≤_}
 use native.Mathlib.Omega.{arith}
 use Rattle.depth.specs.declared.Stretch.{Stretch}
@@ -42,3 +43,8 @@ module _ (q q' : Stretch) (h : Harder q q') (k : ℕ) (hk : q .draft + q .allowa
 
   pub work-deeper : Deeper k (workDepth q) (workDepth q')
   work-deeper = deeper (workDepth q) (workDepth q') (work-as-defined q) (work-as-defined q')
+
+-- with nothing more of draft and allowance, at the same cut
+pub meets-too : (q q' : Stretch) → Harder q q' → 2 ≤ q .speed → (d : ℕ) → Meets q' d → Meets q d
+meets-too q q' h from d m =
+    subst (Meets q) (let same : d - 0 ≡ d = omega arith in same) (meets-easier q q' h 0 (omega arith) from d m .1)

@@ -26,7 +26,7 @@ use Rattle.depth.proofs.Tries.{tries-count}
 use Rattle.depth.proofs.Filled.{work-of-last}
 use Rattle.depth.proofs.Following.{one-following}
 use Rattle.depth.proofs.LeastCut as least-cut
-use Rattle.depth.proofs.Demand.{work-deeper, work-never-cured}
+use Rattle.depth.proofs.Demand.{work-deeper, work-never-cured, meets-too}
 use Rattle.depth.proofs.Starred as the-starred
 
 -- The squat never falls from column A to B to C, from lone to passing, or with the speed, from the table's first speed on; none counts as greatest.
@@ -80,6 +80,10 @@ figures-in-range = least-cut.figures-ranges
 -- Demand 3: a stretch that is as hard or harder, over the same natural depth, is never shallower where both are answered.
 pub never-shallower : (q q' : Stretch) → Harder q q' → Deeper 0 (workDepth q) (workDepth q')
 never-shallower q q' h = work-deeper q q' h 0 (omega arith)
+
+-- What meets the definition for it meets it for the easier stretch too.
+pub meets-the-easier : (q q' : Stretch) → Harder q q' → 2 ≤ q .speed → (d : ℕ) → Meets q' d → Meets q d
+meets-the-easier = meets-too
 
 -- Nor is a refusal ever cured by it. A speed under 2 has no entry and a faster one may have, so the easier speed is at least 2, as on every sheet.
 pub never-cured : (q q' : Stretch) → Harder q q' → 2 ≤ q .speed → NeverCured (workDepth q) (workDepth q')

@@ -7,5 +7,6 @@ pub mod Readings
 pub mod Checked
 pub mod OnlyFigures
 pub mod Exactly
+pub mod Harder
 pub mod Starred
 pub mod Promises

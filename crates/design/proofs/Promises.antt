@@ -31,6 +31,8 @@ use Rattle.design.proofs.Zeros as the-numbers
 use Rattle.design.proofs.Readings.{sheet-read, level-read}
 use Rattle.design.proofs.OnlyFigures.{figures-only}
 use Rattle.design.proofs.Exactly.{number-exactly, zero-exactly, field-exactly, figures-exactly}
+use Rattle.design.specs.Harder.{hardenings, NeverEasier, Each, none, _&_}
+use Rattle.design.proofs.Harder.{deepens, broadens}
 use Rattle.design.proofs.Starred as the-starred
 
 -- The numbers that turn a sheet away
@@ -76,6 +78,14 @@ table-gives-level bytes table = refl
 pub no-table : (bytes : List ℕ) → designAt bytes TableWrong ≡ designOf bytes []
 unfolding designOf designLevel
 no-table bytes = refl
+
+-- Demand 3: over one table, of two sheets with every field in range that differ in one of these figures and come to the same lanes, the one with
+-- the greater figure is answered only where the other is, with a cut that is no shallower (draft, length, speed, wave allowance, silting rate,
+-- soil) or a width that is no narrower (beam, wind, cross current, along current, wave height).
+pub never-easier : Each NeverEasier hardenings
+never-easier =
+    deepens 2 refl & deepens 3 refl & deepens 5 refl & deepens 8 refl & deepens 9 refl & deepens 7 refl
+    & broadens 4 refl refl & broadens 16 refl refl & broadens 17 refl refl & broadens 18 refl refl & broadens 19 refl refl & none
 
 -- The thirteen numbers
 -- The answer is 0 or the number, the field, and the figures.

@@ -3,3 +3,4 @@ pub mod Design
 pub mod Numbers
 pub mod Refusals
 pub mod Answers
+pub mod Harder

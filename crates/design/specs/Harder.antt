@@ -1,0 +1,84 @@
+-- Demand 3: which figures of a sheet, when greater, never make its design easier (section 0).
+use mathlib.Core.Path.{_≡_}
+use mathlib.Core.Logic.{_≢_}
+use mathlib.Core.List.{List, [], _∷_}
+use Prim.Native.Nat.{ℕ, _-_, _≤_, _<_}
+use lib.IntN.{ℤ, pos, negsuc}
+use Rattle.sheet.specs.Fields.{count, nth}
+use Rattle.sheet.specs.Packing.{groupsOf, Bytes}
+use Rattle.sheet.specs.Sheets.{readOf}
+use Rattle.sheet.specs.declared.SheetRead.the-variants.{Good}
+use Rattle.design.specs.Design.{lanesFor, designOf}
+use Rattle.design.specs.Refusals.{sheetIn}
+use Rattle.design.specs.declared.Figures.{Figures}
+use Rattle.design.specs.declared.Reason.{Reason}
+use Rattle.design.specs.declared.Answer.{Answer}
+use Rattle.design.specs.declared.Answer.the-variants.{Answered, Refused}
+
+-- what a design has of each: its cut, and its width without widening
+abbrev pub cut : Figures → ℤ
+cut f = pos (f .cut .0)
+
+abbrev pub width : Figures → ℤ
+width f = f .width
+
+-- a field by its number, and the figure of the design that it never lessens
+pub record Hardening : Type 0 where
+  pub field : ℕ
+  pub kept : Figures → ℤ
+
+infix 5 _never-lessens_
+abbrev pub _never-lessens_ : ℕ → (Figures → ℤ) → Hardening
+_never-lessens_ field kept = record { field = field; kept = kept }
+
+-- the figures that make a sheet harder
+abbrev pub hardenings : List Hardening
+hardenings =
+    (2 never-lessens cut)  -- draft
+    ∷ (3 never-lessens cut)  -- length
+    ∷ (5 never-lessens cut)  -- speed
+    ∷ (8 never-lessens cut)  -- wave allowance
+    ∷ (9 never-lessens cut)  -- silting rate
+    ∷ (7 never-lessens cut)  -- soil
+    ∷ (4 never-lessens width)  -- beam
+    ∷ (16 never-lessens width)  -- wind
+    ∷ (17 never-lessens width)  -- cross current
+    ∷ (18 never-lessens width)  -- along current
+    ∷ (19 never-lessens width)  -- wave height
+    ∷ []
+
+-- the figure in field number k of a sheet's bytes
+abbrev pub figureIn : List ℕ → ℕ → ℕ
+figureIn bytes k = nth (groupsOf bytes) (k - 1)
+
+-- two strings of bytes that are read as sheets, so that every field is in its range; they differ in field k, which is greater in the second,
+-- and come to the same lanes by the lane rule
+pub record Harder (k : ℕ) (easy hard : List ℕ) : Type 0 where
+  pub easy-read : readOf easy ≡ Good (sheetIn easy)
+  pub hard-read : readOf hard ≡ Good (sheetIn hard)
+  pub greater : figureIn easy k < figureIn hard k
+  pub else-equal : (j : ℕ) → 1 ≤ j → j ≤ count → j ≢ k → figureIn easy j ≡ figureIn hard j
+  pub same-lanes : lanesFor (sheetIn easy) ≡ lanesFor (sheetIn hard)
+
+-- signed numbers in their order
+abbrev pub AtMost : ℤ → ℤ → Type 0
+AtMost (pos a) (pos b) = a ≤ b
+AtMost (pos a) (negsuc b) = ⊥
+AtMost (negsuc a) (pos b) = Unit {0}
+AtMost (negsuc a) (negsuc b) = b ≤ a
+
+-- the second design is no easier: refused, or answered where the first is, with a figure that is no less
+pub data NoEasier (figure : Figures → ℤ) : Answer → Answer → Type 0 where
+  no-less : {f g : Figures} → AtMost (figure f) (figure g) → NoEasier figure (Answered f) (Answered g)
+  refused : {a : Answer} {r : Reason} → NoEasier figure a (Refused r)
+
+-- a greater figure in the field never makes a design easier, over any one table
+abbrev pub NeverEasier : Hardening → Type 0
+NeverEasier h = (easy hard table : List ℕ) → Bytes easy → Bytes hard → Harder (h .field) easy hard
+    → NoEasier (h .kept) (designOf easy table) (designOf hard table)
+
+-- what holds of each of a list
+infixr 4 _&_
+pub data Each (P : Hardening → Type 0) : List Hardening → Type 0 where
+  none : Each P []
+  _&_ : {h : Hardening} {hs : List Hardening} → P h → Each P hs → Each P (h ∷ hs)
