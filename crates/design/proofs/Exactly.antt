@@ -12,10 +12,11 @@ use Rattle.laws.specs.Extremes.{Least}
 use Rattle.laws.proofs.Extremes.{least-only}
 use Rattle.sheet.specs.Fields.{Bad}
 use Rattle.sheet.specs.Packing.{groupsOf, Bytes}
+use Rattle.depth.specs.Depth.{Meets}
 use Rattle.design.specs.Design.{designOf}
 use Rattle.design.specs.Numbers.{reasonNumber}
 use Rattle.design.specs.Refusals.{sheetIn, levelIn, Row, NoneBefore, codeOf}
-use Rattle.design.specs.Answers.{FiguresAre, NamesFirst}
+use Rattle.design.specs.Answers.{stretchOf, FiguresAre, NamesFirst}
 use Rattle.design.specs.declared.Figures.{Figures}
 use Rattle.design.specs.declared.Reason.{Reason}
 use Rattle.design.specs.declared.Reason.the-variants.{WrongLength, SpareBitSet, BadField, WrongTable, TooFewReadings, RangeTooWide, BendTooTight, NoWidthEntry, NoCut}
@@ -129,3 +130,8 @@ module _ (bytes table : List ℕ) where
         → (designOf bytes table ≡ Answered f)
         ↔ (((number : ℕ) → ¬ Row bytes table number) × FiguresAre (sheetIn bytes) (levelIn (sheetIn bytes) table) f)
     figures-exactly f = figures-told f (designOf bytes table) (told bytes table small)
+
+    -- 9 is said only when no cut meets the definition
+    pub no-cut-only : designOf bytes table ≡ Refused NoCut → (d : ℕ) → ¬ Meets (stretchOf (sheetIn bytes) (levelIn (sheetIn bytes) table)) d
+    unfolding Row
+    no-cut-only e = number-exactly 9 (omega arith) .0 (ap codeOf e) .0

@@ -7,6 +7,9 @@ pub mod Readings
 pub mod Checked
 pub mod OnlyFigures
 pub mod Exactly
+pub mod Compared
+pub mod HarderRows
+pub mod HarderWidths
 pub mod Harder
 pub mod Starred
 pub mod Promises

@@ -1,5 +1,6 @@
--- What a design promises (sections 8, 9 and 11), each cited from its proof. `designOf` is what `design` ensures, `designAt` what
--- `design_at` does and `numbersOf` what `numbers` does; each of `bytes` is a byte, as `Bytes` says. Assumes nothing.
+-- What a design promises, demand by demand, then the numbers that turn a sheet away (sections 0, 8, 9 and 11); each is cited from its proof.
+-- `designOf` is what `design` ensures, `designAt` what `design_at` does and `numbersOf` what `numbers` does; each of `bytes` is a byte, as `Bytes`
+-- says. Assumes nothing.
 use mathlib.Core.Path.{_≡_, refl}
 use mathlib.Core.List.{List, [], _∷_, map}
 use mathlib.Core.Logic.{_↔_, _≢_}
@@ -11,29 +12,91 @@ use Rattle.laws.proofs.Unique.{one-answer}
 use Rattle.datum.specs.Datum.{levelOf}
 use Rattle.datum.specs.declared.Level.{Level}
 use Rattle.sheet.specs.Fields.{Bad}
-use Rattle.sheet.specs.Packing.{groupsOf, Bytes}
-use Rattle.sheet.specs.Sheets.{readOf}
+use Rattle.sheet.specs.Packing.{size, groupsOf, Bytes}
+use Rattle.sheet.specs.Sheets.{readOf, placeOf, Valid}
 use Rattle.sheet.specs.declared.Sheet.{Sheet}
 use Rattle.sheet.specs.declared.SheetRead.the-variants.{Good}
+use Rattle.sheet.proofs.Promises.{written-and-read, each-one-writing}
+use Rattle.gauge.specs.Adding.{addition, additionNumber, tableAfter}
 use Rattle.gauge.specs.Designing.{designLevel}
 use Rattle.gauge.specs.declared.LevelRead.{LevelRead}
 use Rattle.gauge.specs.declared.LevelRead.the-variants.{Found as LevelFound, WrongTable as TableWrong}
+use Rattle.gauge.proofs.Promises.{refused-changes-nothing}
+use Rattle.depth.specs.Depth.{Meets}
 use Rattle.design.specs.Design.{levelFor, designAt, designOf}
 use Rattle.design.specs.Numbers.{reasonNumber, reasonField, laneNumber, numbersOf}
 use Rattle.design.specs.Refusals.{sheetIn, levelIn, Row, NoneBefore, codeOf, fieldOf}
-use Rattle.design.specs.Answers.{FiguresAre}
+use Rattle.design.specs.Answers.{stretchOf, FiguresAre}
 use Rattle.design.specs.declared.Figures.{Figures}
 use Rattle.design.specs.declared.Reason.{Reason}
-use Rattle.design.specs.declared.Reason.the-variants.{BadField}
+use Rattle.design.specs.declared.Reason.the-variants.{BadField, NoCut}
 use Rattle.design.specs.declared.Answer.{Answer}
 use Rattle.design.specs.declared.Answer.the-variants.{Answered, Refused}
 use Rattle.design.proofs.Zeros as the-numbers
 use Rattle.design.proofs.Readings.{sheet-read, level-read}
 use Rattle.design.proofs.OnlyFigures.{figures-only}
-use Rattle.design.proofs.Exactly.{number-exactly, zero-exactly, field-exactly, figures-exactly}
+use Rattle.design.proofs.Exactly.{number-exactly, zero-exactly, field-exactly, figures-exactly, no-cut-only}
 use Rattle.design.specs.Harder.{hardenings, NeverEasier, Each, none, _&_}
 use Rattle.design.proofs.Harder.{deepens, broadens}
 use Rattle.design.proofs.Starred as the-starred
+
+-- Demand 1
+module _ (bytes table : List ℕ) where
+  -- Every string of bytes is read as a sheet or refused by a fixed number: past 1, 2 and 3 it is the sheet of which the later rows speak.
+  pub sheet-is-read : Bytes bytes → NoneBefore bytes table 4 → readOf bytes ≡ Good (sheetIn bytes)
+  sheet-is-read = sheet-read bytes table
+
+  -- Nothing is left for the caller to check first: any bytes over any table are answered, or refused by one of nine numbers.
+  pub code-at-most-nine : codeOf (designOf bytes table) ≤ 9
+  code-at-most-nine = the-numbers.code-within (designOf bytes table)
+
+-- A refused sheet yields its number, the place of a bad field, and zeros.
+pub refused-figures-zero : (r : Reason) → numbersOf (Refused r) ≡ pos (reasonNumber r) ∷ pos (reasonField r) ∷ replicate 11 (pos 0)
+refused-figures-zero = the-numbers.refused-zeros
+
+-- A refused reading leaves the level table untouched.
+pub refused-reading : (table : List ℕ) (reading : ℤ) → additionNumber (addition table reading) ≢ 0 → tableAfter table reading ≡ table
+refused-reading = refused-changes-nothing
+
+-- Demand 2
+module _ (bytes table : List ℕ) (small : Bytes bytes) where
+  -- Level, lanes, depth, width, widening and classes are those of the definition: an answered design has the figures of its sheet at its level,
+  -- and no other answer has them.
+  pub answered-exactly : (f : Figures)
+      → (designOf bytes table ≡ Answered f)
+      ↔ (((number : ℕ) → ¬ Row bytes table number) × FiguresAre (sheetIn bytes) (levelIn (sheetIn bytes) table) f)
+  answered-exactly = figures-exactly bytes table small
+
+-- A sheet has one row of figures at a level.
+pub one-row-of-figures : (s : Sheet) (level : Level) (f g : Figures) → FiguresAre s level f → FiguresAre s level g → f ≡ g
+one-row-of-figures = figures-only
+
+-- A sheet written and read again is the same sheet.
+pub written-and-read-again : (s : Sheet) (place : List ℕ) → size ≤ length place → Valid s → readOf (take size (placeOf s place)) ≡ Good s
+written-and-read-again = written-and-read
+
+-- Each sheet has one writing.
+pub one-writing-each : (a b : List ℕ) (s : Sheet) → Bytes a → Bytes b → readOf a ≡ Good s → readOf b ≡ Good s → a ≡ b
+one-writing-each = each-one-writing
+
+-- Demand 3
+module _ (bytes table : List ℕ) (small : Bytes bytes) where
+  -- The cut is the least whole centimetre that meets its own need.
+  pub least-cut : (f : Figures) → designOf bytes table ≡ Answered f
+      → Least (Meets (stretchOf (sheetIn bytes) (levelIn (sheetIn bytes) table))) (f .cut .0)
+  least-cut f e = answered-exactly bytes table small f .0 e .1 .cut
+
+  -- "No depth" is said only when none up to 30 m does.
+  pub no-depth-only : designOf bytes table ≡ Refused NoCut → (d : ℕ) → ¬ Meets (stretchOf (sheetIn bytes) (levelIn (sheetIn bytes) table)) d
+  no-depth-only = no-cut-only bytes table small
+
+-- Over one table, of two sheets with every field in range that differ in one of these figures and come to the same lanes, the one with the
+-- greater figure is answered only where the other is, with a cut that is no shallower (draft, length, speed, wave allowance, silting rate, soil)
+-- or a width that is no narrower (beam, wind, cross current, along current, wave height).
+pub never-easier : Each NeverEasier hardenings
+never-easier =
+    deepens 2 refl & deepens 3 refl & deepens 5 refl & deepens 8 refl & deepens 9 refl & deepens 7 refl
+    & broadens 4 refl refl & broadens 16 refl refl & broadens 17 refl refl & broadens 18 refl refl & broadens 19 refl refl & none
 
 -- The numbers that turn a sheet away
 module _ (bytes table : List ℕ) (small : Bytes bytes) where
@@ -49,25 +112,10 @@ module _ (bytes table : List ℕ) (small : Bytes bytes) where
   pub first-bad-field : (k : ℕ) → (designOf bytes table ≡ Refused (BadField k)) ↔ (Least (Bad (groupsOf bytes)) k × NoneBefore bytes table 3)
   first-bad-field = field-exactly bytes table small
 
-  -- An answered design has the figures of its sheet at its level: level, lanes, least cut and its s, columns tried, datum depth, width,
-  -- widening and classes; no other answer has them.
-  pub answered-exactly : (f : Figures)
-      → (designOf bytes table ≡ Answered f)
-      ↔ (((number : ℕ) → ¬ Row bytes table number) × FiguresAre (sheetIn bytes) (levelIn (sheetIn bytes) table) f)
-  answered-exactly = figures-exactly bytes table small
-
-  -- Past 1, 2 and 3 the bytes are read as the sheet of which the later rows speak.
-  pub sheet-is-read : NoneBefore bytes table 4 → readOf bytes ≡ Good (sheetIn bytes)
-  sheet-is-read = sheet-read bytes table small
-
 -- Past 4, 5 and 6 the sheet has its level: its own, or the one read off the table.
 pub level-is-had : (bytes table : List ℕ) → NoneBefore bytes table 7
     → levelFor (sheetIn bytes .level) (designLevel table) ≡ LevelFound (levelIn (sheetIn bytes) table)
 level-is-had = level-read
-
--- A sheet has one row of figures at a level.
-pub one-row-of-figures : (s : Sheet) (level : Level) (f g : Figures) → FiguresAre s level f → FiguresAre s level g → f ≡ g
-one-row-of-figures = figures-only
 
 -- A design over a table is the design at the level that the table gives.
 pub table-gives-level : (bytes table : List ℕ) → designOf bytes table ≡ designAt bytes (designLevel table)
@@ -78,14 +126,6 @@ table-gives-level bytes table = refl
 pub no-table : (bytes : List ℕ) → designAt bytes TableWrong ≡ designOf bytes []
 unfolding designOf designLevel
 no-table bytes = refl
-
--- Demand 3: over one table, of two sheets with every field in range that differ in one of these figures and come to the same lanes, the one with
--- the greater figure is answered only where the other is, with a cut that is no shallower (draft, length, speed, wave allowance, silting rate,
--- soil) or a width that is no narrower (beam, wind, cross current, along current, wave height).
-pub never-easier : Each NeverEasier hardenings
-never-easier =
-    deepens 2 refl & deepens 3 refl & deepens 5 refl & deepens 8 refl & deepens 9 refl & deepens 7 refl
-    & broadens 4 refl refl & broadens 16 refl refl & broadens 17 refl refl & broadens 18 refl refl & broadens 19 refl refl & none
 
 -- The thirteen numbers
 -- The answer is 0 or the number, the field, and the figures.
@@ -103,11 +143,7 @@ field-zero-unless = the-numbers.field-unless
 pub one-reason : (r t : Reason) → reasonNumber r ≡ reasonNumber t → reasonField r ≡ reasonField t → r ≡ t
 one-reason = the-numbers.one-reason
 
--- A refused design has its number, its field and eleven figures that are 0.
-pub refused-figures-zero : (r : Reason) → numbersOf (Refused r) ≡ pos (reasonNumber r) ∷ pos (reasonField r) ∷ replicate 11 (pos 0)
-refused-figures-zero = the-numbers.refused-zeros
-
--- An answered one has code 0, field 0, and its level, lanes, s, cut, datum depth, width, widening, columns tried and three classes.
+-- An answered design has code 0, field 0, and its level, lanes, s, cut, datum depth, width, widening, columns tried and three classes.
 pub answered-figures : (f : Figures)
     → numbersOf (Answered f)
     ≡ pos 0 ∷ pos 0 ∷ levelOf (f .level) ∷ pos (laneNumber (f .lanes)) ∷ pos (f .sailing .0) ∷ pos (f .cut .0) ∷ f .datum .0 ∷ f .width

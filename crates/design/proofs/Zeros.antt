@@ -3,7 +3,8 @@
 use mathlib.Core.Path.{_≡_, refl, sym, ap₂, _∙_}
 use mathlib.Core.List.{[], _∷_}
 use mathlib.Core.Logic.{_≢_}
-use Prim.Native.Nat.{ℕ}
+use Prim.Native.Nat.{ℕ, _≤_}
+use native.Mathlib.Omega.{arith}
 use lib.IntN.{pos}
 use lib.ListN.{length, take, replicate}
 use Rattle.laws.specs.Choice.{if_then_else_, _=ᵇ_}
@@ -31,6 +32,22 @@ pub code-and-field : (a : Answer) → take 2 (numbersOf a) ≡ pos (codeOf a) �
 unfolding numbersOf
 code-and-field (Answered f) = refl
 code-and-field (Refused r) = refl
+
+-- nine numbers turn a sheet away
+pub reason-within : (r : Reason) → reasonNumber r ≤ 9
+reason-within WrongLength = omega arith
+reason-within SpareBitSet = omega arith
+reason-within (BadField k) = omega arith
+reason-within WrongTable = omega arith
+reason-within TooFewReadings = omega arith
+reason-within RangeTooWide = omega arith
+reason-within BendTooTight = omega arith
+reason-within NoWidthEntry = omega arith
+reason-within NoCut = omega arith
+
+pub code-within : (a : Answer) → codeOf a ≤ 9
+code-within (Answered f) = omega arith
+code-within (Refused r) = reason-within r
 
 -- the field is 0 unless the number is 3
 field-zero : (r : Reason) → reasonNumber r ≢ 3 → reasonField r ≡ 0

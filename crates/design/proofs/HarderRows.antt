@@ -1,0 +1,131 @@
+-- Each row that turns the easier of two sheets away turns the harder away, and what meets the harder one's depth meets the easier one's; so where
+-- the harder is answered both are, and only their figures are left to compare.
+-- Assumes nothing.
+use mathlib.Core.Path.{_≡_, refl, sym, ap, ap₂, subst, _∙_}
+use mathlib.Core.List.{List}
+use mathlib.Core.Logic.{_⊎_, inl, inr}
+use Prim.Native.Nat.{ℕ, _*_, _≤_, _<_}
+use native.Mathlib.Nat.{mul-le-mul}
+use native.Mathlib.Omega.{arith}
+use lib.IntN.{ℤ, pos}
+use Rattle.laws.proofs.Extremes.{least-grows}
+use Rattle.datum.specs.Datum.{belowChart, naturalDepth}
+use Rattle.sheet.specs.Fields.{fields, fieldAt, least}
+use Rattle.sheet.specs.Packing.{groupsOf, Bytes}
+use Rattle.sheet.specs.Sheets.{levelSourceOf, sheetOf, readOf}
+use Rattle.sheet.specs.declared.Sheet.{Sheet}
+use Rattle.sheet.specs.declared.SheetRead.the-variants.{Good}
+use Rattle.sheet.specs.declared.LevelSource.{LevelSource}
+use Rattle.sheet.proofs.OneWriting.{accepted}
+use Rattle.sheet.proofs.Reading.{good-exactly}
+use Rattle.sheet.proofs.Valid.{fine}
+use Rattle.depth.specs.Interval.{intervalOf}
+use Rattle.depth.specs.Squat.{squatReading}
+use Rattle.depth.specs.Depth.{Meets}
+use Rattle.depth.specs.Harder.{Harder as HarderDepth}
+use Rattle.depth.proofs.Promises.{meets-the-easier}
+use Rattle.width.specs.Bends.{leastLengths}
+use Rattle.design.specs.Design.{lanesFor}
+use Rattle.design.specs.Numbers.{reasonNumber}
+use Rattle.design.specs.Refusals.{sheetIn, levelIn, levelFrom, Row, TightBend, EntryMissing, OffRecord}
+use Rattle.design.specs.Answers.{stretchOf, FiguresAre}
+use Rattle.design.specs.Harder.{cut, AtMost, NoEasier, no-less, refused as harder-refused}
+use Rattle.design.specs.declared.Figures.{Figures}
+use Rattle.design.specs.declared.Reason.{Reason}
+use Rattle.design.specs.declared.Reason.the-variants.{WrongLength, SpareBitSet, BadField, WrongTable, TooFewReadings, RangeTooWide, BendTooTight, NoWidthEntry, NoCut}
+use Rattle.design.specs.declared.Answer.{Answer}
+use Rattle.design.proofs.Zeros.{reason-within}
+use Rattle.design.proofs.Checked.{Told, refused, answered}
+use Rattle.design.proofs.Compared.{hardens, Compared}
+
+-- the rows, and what the two depths are worked from
+module _ (easy hard table : List ℕ) (read : readOf easy ≡ Good (sheetIn easy)) (lanes : lanesFor (sheetIn easy) ≡ lanesFor (sheetIn hard))
+    (c : Compared hardens easy hard) where
+  abbrev s : Sheet
+  s = sheetIn easy
+
+  abbrev s' : Sheet
+  s' = sheetIn hard
+
+  -- the level, the bend and the water are the same
+  level-same : s .level ≡ s' .level
+  unfolding sheetOf
+  level-same = ap₂ levelSourceOf (c .same 27 refl) (c .same 28 refl)
+
+  off-record-too : (Fault : Type 0) → OffRecord (s .level) Fault → OffRecord (s' .level) Fault
+  off-record-too Fault = subst (λ (source : LevelSource). OffRecord source Fault) level-same
+
+  tight-too : TightBend s → TightBend s'
+  unfolding sheetOf
+  tight-too row =
+      let turn = c .same 25 refl in
+      let radius = c .same 26 refl in
+      let lengths : leastLengths (s .turn) ≡ leastLengths (s' .turn) = ap leastLengths turn in
+      let product : leastLengths (s .turn) * s .length ≤ leastLengths (s' .turn) * s' .length =
+      mul-le-mul (omega arith) (c .rises 3 refl) in
+      record { bent = λ e. row .bent (turn ∙ e); under = omega (arith, row .under) }
+
+  missing-too : EntryMissing s → EntryMissing s'
+  unfolding sheetOf
+  missing-too row =
+      record { sheltered = sym (c .same 14 refl) ∙ row .sheltered; beyond = go (row .beyond) }
+    where
+      go : (15 < s .cross .0) ⊎ (100 < s .wave) → (15 < s' .cross .0) ⊎ (100 < s' .wave)
+      go (inl over) = inl (omega (arith, c .rises 17 refl))
+      go (inr over) = inr (omega (arith, c .rises 19 refl))
+
+  pub level-in-same : levelIn s table ≡ levelIn s' table
+  level-in-same = ap (λ (source : LevelSource). levelFrom source table) level-same
+
+  depth-harder : HarderDepth (stretchOf s (levelIn s table)) (stretchOf s' (levelIn s' table))
+  unfolding sheetOf
+  depth-harder =
+      record {
+        draft = c .rises 2 refl;
+        length = c .rises 3 refl;
+        soil = c .rises 7 refl;
+        wave = c .rises 8 refl;
+        silting = c .rises 9 refl;
+        interval = le-of-eq (ap intervalOf (c .same 10 refl));
+        speed = c .rises 5 refl;
+        lanes = le-of-eq (ap squatReading lanes);
+        natural = sym (ap₂ (λ bed level. naturalDepth bed level .0) (ap (λ (cm : ℕ). belowChart (pos cm)) (c .same 6 refl)) level-in-same);
+      }
+    where
+      le-of-eq : {m n : ℕ} → m ≡ n → m ≤ n
+      le-of-eq e = omega arith
+
+  -- every speed of a sheet is one of the squat's table
+  speed-read : 2 ≤ s .speed
+  unfolding sheetOf least fieldAt fields
+  speed-read = fine (groupsOf easy) (accepted easy s read .none) 4 (omega arith) .low
+
+  meets-too : (d : ℕ) → Meets (stretchOf s' (levelIn s' table)) d → Meets (stretchOf s (levelIn s table)) d
+  meets-too = meets-the-easier _ _ depth-harder speed-read
+
+  module _ (small : Bytes easy) where
+    -- each row that turns the easier sheet away turns the harder away
+    row-too : (r : Reason) → Row easy table (reasonNumber r) → Row hard table (reasonNumber r)
+    unfolding Row
+    row-too WrongLength row = absurd (row (good-exactly easy small .0 (s, read) .0))
+    row-too SpareBitSet row = absurd (good-exactly easy small .0 (s, read) .1 row)
+    row-too (BadField k) row = absurd (good-exactly easy small .0 (s, read) .2 (row .field) (row .bad))
+    row-too WrongTable row = off-record-too _ row
+    row-too TooFewReadings row = off-record-too _ row
+    row-too RangeTooWide row = off-record-too _ row
+    row-too BendTooTight row = tight-too row
+    row-too NoWidthEntry row = missing-too row
+    row-too NoCut row = λ d m. row d (meets-too d m)
+
+    -- so only the figures are left to compare
+    pub no-easier : (figure : Figures → ℤ)
+        → ((f g : Figures) → ¬ EntryMissing s' → FiguresAre s (levelIn s table) f → FiguresAre s' (levelIn s' table) g → AtMost (figure f) (figure g))
+        → (a b : Answer) → Told easy table a → Told hard table b → NoEasier figure a b
+    unfolding Row
+    no-easier figure at-most a b t (refused r row before names) = harder-refused
+    no-easier figure at-most a b (refused r row before names) (answered g none are) =
+        absurd (none (reasonNumber r) (omega (arith, reason-within r)) (row-too r row))
+    no-easier figure at-most a b (answered f none are) (answered g none' are') = no-less (at-most f g (none' 8 (omega arith)) are are')
+
+  pub cut-rises : (f g : Figures) → ¬ EntryMissing s' → FiguresAre s (levelIn s table) f → FiguresAre s' (levelIn s' table) g → AtMost (cut f) (cut g)
+  cut-rises f g there are are' = least-grows _ _ (f .cut .0) (g .cut .0) meets-too (are .cut) (are' .cut)

@@ -1,0 +1,102 @@
+-- Where only beam, wind, currents and wave are moved, the depth is worked from the same figures, and the width is that of a harder stretch.
+-- Assumes nothing.
+use mathlib.Core.Path.{_≡_, refl, sym, ap, ap₂, subst, _∙_}
+use mathlib.Core.List.{List}
+use Prim.Native.Nat.{ℕ, _≤_}
+use native.Mathlib.Omega.{arith}
+use Rattle.laws.specs.Extremes.{Least}
+use Rattle.laws.proofs.Extremes.{least-only}
+use Rattle.datum.specs.declared.BelowLevel.{BelowLevel}
+use Rattle.sheet.specs.Sheets.{sheetOf}
+use Rattle.sheet.specs.declared.Sheet.{Sheet}
+use Rattle.lanes.specs.declared.Lanes.{Lanes}
+use Rattle.depth.specs.Depth.{sailing, ownColumn, Meets}
+use Rattle.depth.specs.declared.Stretch.{Stretch as DepthStretch}
+use Rattle.width.specs.Width.{widthOf, widthNumber, widthFigure}
+use Rattle.width.specs.Comparing.{changed, Harder as HarderWidth, NoNarrower, as-wide, refused as no-width}
+use Rattle.width.specs.declared.Stretch.{Stretch as WidthStretch}
+use Rattle.width.specs.declared.WidthFound.{WidthFound}
+use Rattle.width.proofs.Promises.{else-a-width, harder-never-narrower}
+use Rattle.design.specs.Design.{widthStretch, lanesFor}
+use Rattle.design.specs.Refusals.{sheetIn, levelIn, EntryMissing}
+use Rattle.design.specs.Answers.{stretchOf, FiguresAre}
+use Rattle.design.specs.Harder.{width, AtMost}
+use Rattle.design.specs.declared.Figures.{Figures}
+use Rattle.design.proofs.Compared.{widens, Compared}
+
+-- what a width is worked from, apart from the five
+stretch-same : (s s' : Sheet) {l l' : Lanes} {z z' : BelowLevel} → s .draft ≡ s' .draft → s .speed ≡ s' .speed → s .ships ≡ s' .ships
+    → s .water ≡ s' .water → s .handling ≡ s' .handling → s .aids ≡ s' .aids → s .bottom ≡ s' .bottom → s .cargo ≡ s' .cargo
+    → s .left ≡ s' .left → s .right ≡ s' .right → l ≡ l' → z ≡ z'
+    → widthStretch s' l' z' ≡ changed (widthStretch s l z) (s' .beam) (s' .wind) (s' .cross) (s' .along) (s' .wave)
+stretch-same s s' draft speed ships water handling aids bottom cargo left right lanes sailing =
+    rw (draft, speed, ships, water, handling, aids, bottom, cargo, left, right, lanes, sailing)
+
+-- the width, where only the five that it grows with are moved
+module _ (easy hard table : List ℕ) (lanes : lanesFor (sheetIn easy) ≡ lanesFor (sheetIn hard)) (c : Compared widens easy hard)
+    (level : levelIn (sheetIn easy) table ≡ levelIn (sheetIn hard) table) where
+  abbrev q : DepthStretch
+  q = stretchOf (sheetIn easy) (levelIn (sheetIn easy) table)
+
+  abbrev q' : DepthStretch
+  q' = stretchOf (sheetIn hard) (levelIn (sheetIn hard) table)
+
+  depth-same : q ≡ q'
+  unfolding sheetOf
+  depth-same =
+      let draft = c .same 2 refl in
+      let length = c .same 3 refl in
+      let speed = c .same 5 refl in
+      let bed = c .same 6 refl in
+      let soil = c .same 7 refl in
+      let allowance = c .same 8 refl in
+      let silting = c .same 9 refl in
+      let interval = c .same 10 refl in
+      cc
+
+  module _ (f g : Figures) (are : FiguresAre (sheetIn easy) (levelIn (sheetIn easy) table) f)
+      (are' : FiguresAre (sheetIn hard) (levelIn (sheetIn hard) table) g) where
+    abbrev held : ℕ → BelowLevel
+    held cm = record { 0 = cm }
+
+    sailing-same : f .sailing ≡ g .sailing
+    sailing-same =
+        let cuts : f .cut .0 ≡ g .cut .0 =
+        least-only (Meets q') (f .cut .0) (g .cut .0) (subst (λ (p : DepthStretch). Least (Meets p) (f .cut .0)) depth-same (are .cut)) (are' .cut) in
+        ap held
+        (are .sailing-depth ∙ ap₂ (λ (p : DepthStretch) (d : ℕ). sailing p (ownColumn p d)) depth-same cuts ∙ sym (are' .sailing-depth))
+
+    abbrev w : WidthStretch
+    w = widthStretch (sheetIn easy) (lanesFor (sheetIn easy)) (f .sailing)
+
+    abbrev w' : WidthStretch
+    w' = widthStretch (sheetIn hard) (lanesFor (sheetIn hard)) (g .sailing)
+
+    others-same : w' ≡ changed w (w' .beam) (w' .wind) (w' .cross) (w' .along) (w' .wave)
+    unfolding sheetOf
+    others-same =
+        stretch-same (sheetIn easy) (sheetIn hard) (c .same 2 refl) (c .same 5 refl)
+        (c .same 13 refl) (c .same 14 refl) (c .same 15 refl)
+        (c .same 20 refl) (c .same 21 refl) (c .same 22 refl)
+        (c .same 23 refl) (c .same 24 refl) lanes sailing-same
+
+    width-harder : HarderWidth w w'
+    unfolding sheetOf
+    width-harder =
+        record {
+          beam = c .rises 4 refl;
+          wind = c .rises 16 refl;
+          cross = c .rises 17 refl;
+          along = c .rises 18 refl;
+          wave = c .rises 19 refl;
+          equal = others-same;
+        }
+
+    found-rises : (a b : WidthFound) → NoNarrower a b → widthNumber b ≡ 0 → widthFigure a ≤ widthFigure b
+    found-rises a b (as-wide rises) e = rises
+    found-rises a b no-width e = absurd (omega arith)
+
+    pub width-rises : ¬ EntryMissing (sheetIn hard) → AtMost (width f) (width g)
+    width-rises there =
+        let has : widthNumber (widthOf w') ≡ 0 = else-a-width w' .1 (λ no. there (record { sheltered = no .sheltered; beyond = no .beyond })) in
+        rw (are .width, are' .width) (found-rises (widthOf w) (widthOf w') (harder-never-narrower w w' width-harder) has)
