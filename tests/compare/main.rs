@@ -7,6 +7,7 @@ mod second;
 mod depths;
 mod gauges;
 mod handles;
+mod harder;
 mod parts;
 mod plans;
 mod printing;
@@ -27,6 +28,7 @@ fn main() {
         "widths" => widths::widths(),
         "worked-examples" => worked::worked(),
         "plans" => plans::plans(),
+        "harder" => harder::harder(),
         "printing" => printing::printing(),
         _ => {
             eprintln!("compare: no comparison is called '{name}'");
