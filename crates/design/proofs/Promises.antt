@@ -157,6 +157,9 @@ design-unique bytes table = one-answer
 pub design-at-unique : (bytes : List ℕ) (read : LevelRead) (r s : Answer) → r ≡ designAt bytes read → s ≡ designAt bytes read → r ≡ s
 design-at-unique bytes read = one-answer
 
+pub code-unique : (design : Answer) (r s : ℕ) → r ≡ codeOf design → s ≡ codeOf design → r ≡ s
+code-unique design = one-answer
+
 pub numbers-unique : (design : Answer) (r s : List ℤ) → r ≡ numbersOf design → s ≡ numbersOf design → r ≡ s
 numbers-unique design = one-answer
 

@@ -2,6 +2,7 @@
 ghost use mathlib.Core.Path.{_≡_};
 ghost use Rattle.design.specs.Design.{designAt, designOf};
 ghost use Rattle.design.specs.Numbers.{numbersOf};
+ghost use Rattle.design.specs.Refusals.{codeOf};
 use datum::BelowChart;
 use datum::BelowLevel;
 use datum::Level;
@@ -67,6 +68,16 @@ pub fn design_at(bytes: &[u8], level: LevelRead) -> Answer
         SheetRead::WrongLength => Answer::Refused(Reason::WrongLength),
         SheetRead::SpareBitSet => Answer::Refused(Reason::SpareBitSet),
         SheetRead::BadField(k) => Answer::Refused(Reason::BadField(k as u8)),
+    }
+}
+
+// The code of a design: 0, or the number that turns its sheet away.
+pub fn code(design: Answer) -> u8
+    ensures { λ r. ⌜ r ≡ codeOf design ⌝ }
+{
+    match design {
+        Answer::Answered(_) => 0,
+        Answer::Refused(reason) => numbering::reason_number(reason),
     }
 }
 

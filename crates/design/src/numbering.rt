@@ -9,7 +9,7 @@ use datum::BelowLevel;
 use datum::Level;
 use lanes::Lanes;
 
-fn reason_number(reason: Reason) -> u8
+pub fn reason_number(reason: Reason) -> u8
     ensures { λ r. ⌜ r ≡ reasonNumber reason ⌝ }
 {
     match reason {

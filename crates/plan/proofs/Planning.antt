@@ -12,13 +12,13 @@ use lib.IntN.{ℤ}
 use lib.ListN.{length, take, drop}
 use lib.Seq.{drop-at, take-at}
 use Rattle.laws.specs.Choice.{if_then_else_}
-use Rattle.design.specs.Numbers.{reasonNumber, numbersOf}
+use Rattle.design.specs.Numbers.{numbersOf}
+use Rattle.design.specs.Refusals.{codeOf}
 use Rattle.design.specs.declared.Answer.{Answer}
-use Rattle.design.specs.declared.Answer.the-variants.{Answered, Refused}
-use Rattle.design.specs.declared.Reason.{Reason}
-use Rattle.design.specs.declared.Reason.the-variants.{WrongLength, SpareBitSet, BadField, WrongTable, TooFewReadings, RangeTooWide, BendTooTight, NoWidthEntry, NoCut}
+use Rattle.design.proofs.Zeros.{code-within}
+use Rattle.design.proofs.Promises.{thirteen-numbers}
 use Rattle.plan.specs.Words.{bytesOfNumbers}
-use Rattle.plan.specs.Plan.{needed, codeOf, planned, planNumber, planPlace}
+use Rattle.plan.specs.Plan.{needed, planned, planNumber, planPlace}
 use Rattle.plan.proofs.Placing.{bytes-length}
 
 module _ (sheet place : List ℕ) where
@@ -34,38 +34,21 @@ module _ (sheet place : List ℕ) where
       rw (le-ltb (length place) needed h)
       (c ∙ ap codeOf e, l ∙ ap (λ (z : List ℤ). bytesOfNumbers z ++ drop needed place) (n ∙ ap numbersOf e))
 
-  -- no design is refused by 12
-  codes : (a : Answer) → codeOf a ≤ 9
-  codes (Answered f) = omega arith
-  codes (Refused WrongLength) = omega arith
-  codes (Refused SpareBitSet) = omega arith
-  codes (Refused (BadField k)) = omega arith
-  codes (Refused WrongTable) = omega arith
-  codes (Refused TooFewReadings) = omega arith
-  codes (Refused RangeTooWide) = omega arith
-  codes (Refused BendTooTight) = omega arith
-  codes (Refused NoWidthEntry) = omega arith
-  codes (Refused NoCut) = omega arith
-
   pub twelve-exactly : (planNumber sheet place ≡ 12) ↔ (length place < needed)
   unfolding planNumber
   twelve-exactly = ((λ e. go (ltb (length place) needed) refl e), (λ h. sym (too-small h .0)))
     where
       go : (b : Bool) → ltb (length place) needed ≡ b → (if b then 12 else codeOf (planned sheet)) ≡ 12 → length place < needed
       go true p e = ltb-true _ _ p
-      go false p e = absurd (omega (arith, codes (planned sheet)))
+      -- no design is refused by 12
+      go false p e = absurd (omega (arith, code-within (planned sheet)))
 
   pub code-with-room : needed ≤ length place → planNumber sheet place ≡ codeOf (planned sheet)
   unfolding planNumber
   code-with-room h = rw (le-ltb (length place) needed h)
 
-  numbers-length : (a : Answer) → length (numbersOf a) ≡ 13
-  unfolding numbersOf
-  numbers-length (Answered f) = refl
-  numbers-length (Refused r) = refl
-
   filled : length (bytesOfNumbers (numbersOf (planned sheet))) ≡ needed
-  filled = bytes-length (numbersOf (planned sheet)) ∙ ap (λ (n : ℕ). 4 * n) (numbers-length (planned sheet))
+  filled = bytes-length (numbersOf (planned sheet)) ∙ ap (λ (n : ℕ). 4 * n) (thirteen-numbers (planned sheet))
 
   -- with room, the numbers stand first and nothing later changes; without, nothing changes at all
   pub numbers-first : needed ≤ length place → take needed (planPlace sheet place) ≡ bytesOfNumbers (numbersOf (planned sheet))

@@ -7,8 +7,9 @@ use Prim.Native.Nat.{ℕ, _≤_, _<_}
 use lib.ListN.{length, take, drop}
 use Rattle.laws.proofs.Unique.{one-answer}
 use Rattle.design.specs.Numbers.{numbersOf}
+use Rattle.design.specs.Refusals.{codeOf}
 use Rattle.plan.specs.Words.{bytesOfNumbers}
-use Rattle.plan.specs.Plan.{needed, codeOf, planned, planNumber, planPlace}
+use Rattle.plan.specs.Plan.{needed, planned, planNumber, planPlace}
 use Rattle.plan.proofs.Planning.{too-small, twelve-exactly, code-with-room, numbers-first, later-stay}
 
 -- 12, tested first: a place under 52 bytes.

@@ -5,19 +5,14 @@ use lib.ListN.{length, drop}
 use Rattle.laws.specs.Choice.{if_then_else_, _<ᵇ_}
 use Rattle.gauge.specs.declared.LevelRead.the-variants.{WrongTable}
 use Rattle.design.specs.Design.{designAt}
-use Rattle.design.specs.Numbers.{reasonNumber, numbersOf}
+use Rattle.design.specs.Numbers.{numbersOf}
+use Rattle.design.specs.Refusals.{codeOf}
 use Rattle.design.specs.declared.Answer.{Answer}
-use Rattle.design.specs.declared.Answer.the-variants.{Answered, Refused}
 use Rattle.plan.specs.Words.{bytesOfNumbers}
 
 -- thirteen numbers of four bytes
 abbrev pub needed : ℕ
 needed = 52
-
--- the code of an answer: 0, or the number that turns the sheet away
-abbrev pub codeOf : Answer → ℕ
-codeOf (Answered f) = 0
-codeOf (Refused r) = reasonNumber r
 
 -- there is no table, so a level off the record gives 4
 abbrev pub planned : List ℕ → Answer

@@ -6,11 +6,10 @@ ghost use lib.ListN.{length, drop};
 ghost use lib.Seq.{sets};
 ghost use mir.Syntax.{w32};
 ghost use mir.Val.{ofZ};
-ghost use Rattle.design.specs.Numbers.{reasonNumber};
+ghost use Rattle.design.specs.Refusals.{codeOf};
 ghost use Rattle.plan.specs.Words.{wordBytes, bytesOfNumbers};
-ghost use Rattle.plan.specs.Plan.{codeOf, planNumber, planPlace};
+ghost use Rattle.plan.specs.Plan.{planNumber, planPlace};
 use design::Answer;
-use design::Reason;
 use gauge::LevelRead;
 
 // The numbers of an answer.
@@ -52,30 +51,11 @@ fn put_numbers(numbers: [i32; COUNT], place: &mut [u8])
     }
 }
 
-// The code of an answer.
+// The code of an answer, as the call returns it.
 fn code_of(answer: Answer) -> u32
     ensures { λ r. ⌜ r ≡ codeOf answer ⌝ }
 {
-    match answer {
-        Answer::Answered(_) => 0,
-        Answer::Refused(reason) => reason_code(reason),
-    }
-}
-
-fn reason_code(reason: Reason) -> u32
-    ensures { λ r. ⌜ r ≡ reasonNumber reason ⌝ }
-{
-    match reason {
-        Reason::WrongLength => 1,
-        Reason::SpareBitSet => 2,
-        Reason::BadField(_) => 3,
-        Reason::WrongTable => 4,
-        Reason::TooFewReadings => 5,
-        Reason::RangeTooWide => 6,
-        Reason::BendTooTight => 7,
-        Reason::NoWidthEntry => 8,
-        Reason::NoCut => 9,
-    }
+    design::code(answer) as u32
 }
 
 // Plans a sheet with no level table: 12 where the place is too small; else the code, with the numbers in the place.
