@@ -1,6 +1,7 @@
 // Sheets from standard input, each with its line, and the route's line at the end.
 ghost use mathlib.Core.Path.{_≡_};
 ghost use Rattle.channel.specs.Route.{withSheet};
+ghost use Rattle.channel.specs.Printing.{printed, placeFor, sheetPrinted, blockPrinted, restPrinted};
 use crate::input;
 use design::Answer;
 use gauge::LevelRead;
@@ -11,9 +12,6 @@ use libc::STDOUT_FILENO;
 const BLOCK: usize = 65520;
 
 const SHEET: usize = 28;
-
-// The room that a line may need.
-const LINE: usize = 192;
 
 // The route so far.
 struct Route {
@@ -69,10 +67,12 @@ fn put_out(buffer: &[u8], count: usize) -> bool {
 }
 
 // Makes room for a line: what stands in the buffer is written where too little is left.
-fn with_room(buffer: &[u8], state: State) -> State {
+fn with_room(buffer: &[u8], state: State) -> State
+    ensures { λ r. ⌜ (r .at ≡ placeFor (now (buffer .entry)) (state .at)) × (r .route ≡ state .route) ⌝ }
+{
     let at = state.at;
     let route = state.route;
-    if LINE <= buffer.len() && at <= buffer.len() - LINE {
+    if lines::has_room(buffer.len(), at) {
         return state;
     }
     let open = put_out(buffer, at);
@@ -80,7 +80,9 @@ fn with_room(buffer: &[u8], state: State) -> State {
 }
 
 // The line of one sheet.
-fn print_sheet(level: LevelRead, sheet: &[u8], buffer: &mut [u8], state: State) -> State {
+fn print_sheet(level: LevelRead, sheet: &[u8], buffer: &mut [u8], state: State) -> State
+    ensures { λ r. ⌜ printed r (now (buffer .exit)) ≡ sheetPrinted level (now (sheet .entry)) (printed state (now (buffer .entry))) ⌝ }
+{
     let ready = with_room(buffer, state);
     let at = ready.at;
     let so_far = ready.route;
@@ -96,7 +98,9 @@ fn print_sheet(level: LevelRead, sheet: &[u8], buffer: &mut [u8], state: State) 
 }
 
 // The lines of the whole sheets of a block.
-fn print_block(level: LevelRead, block: &[u8], buffer: &mut [u8], state: State) -> State {
+fn print_block(level: LevelRead, block: &[u8], buffer: &mut [u8], state: State) -> State
+    ensures { λ r. ⌜ printed r (now (buffer .exit)) ≡ blockPrinted level (now (block .entry)) (printed state (now (buffer .entry))) ⌝ }
+{
     let mut now = state;
     let mut from: usize = 0;
     while SHEET <= block.len() - from {
@@ -108,7 +112,9 @@ fn print_block(level: LevelRead, block: &[u8], buffer: &mut [u8], state: State) 
 }
 
 // The line of a short last sheet, where bytes are left.
-fn print_rest(level: LevelRead, block: &[u8], buffer: &mut [u8], state: State) -> State {
+fn print_rest(level: LevelRead, block: &[u8], buffer: &mut [u8], state: State) -> State
+    ensures { λ r. ⌜ printed r (now (buffer .exit)) ≡ restPrinted level (now (block .entry)) (printed state (now (buffer .entry))) ⌝ }
+{
     let rest = block.len() % SHEET;
     if rest == 0 {
         return state;

@@ -65,7 +65,7 @@ pub fn put_route_line(sheets: u64, answered: u64, class: u8, buffer: &mut [u8], 
 }
 
 // Whether a buffer of so many bytes has a line's room from a place on.
-fn has_room(bytes: usize, at: usize) -> bool
+pub fn has_room(bytes: usize, at: usize) -> bool
     ensures { λ r. ⌜ r ≡ (at + room ≤ᵇ bytes) ⌝ }
 {
     if bytes < ROOM {
