@@ -1,3 +1,5 @@
 pub mod Signs
 pub mod Bytes
 pub mod Printing
+pub mod Joined
+pub mod Promises

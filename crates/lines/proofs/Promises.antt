@@ -1,6 +1,7 @@
 -- What the lines promise, in the definition's words (the printing program). Each proof stands where it is cited.
 -- Assumes nothing.
 use mathlib.Core.Path.{_≡_}
+use mathlib.Core.Bool.{Bool}
 use mathlib.Core.List.{List, [], _∷_, List·Memᴰ}
 use mathlib.Core.Logic.{_↔_}
 use Prim.Native.Nat.{ℕ, _+_, _^_, _≤_, _<_}
@@ -9,6 +10,7 @@ use lib.ListN.{length, take, drop}
 use lib.Signed.{_<ℤ_}
 use mir.Syntax.{w32}
 use mir.Val.{SFits}
+use Rattle.laws.specs.Choice.{_≤ᵇ_}
 use Rattle.laws.proofs.Unique.{one-answer}
 use Rattle.lines.specs.Decimals.{digits, valueOf, Each, Decimal, minus, countText, numberText}
 use Rattle.lines.specs.Lines.{levelsLine, sheetLine, routeLine, room, placeAfter, bufferAfter}
@@ -95,6 +97,9 @@ pub next-place-within : (line : List ℕ) (at : ℕ) (buffer : List ℕ) → len
 next-place-within = place-within
 
 -- One answered place and one later content of the buffer, for each of the three calls.
+pub room-unique : (bytes at : ℕ) (r s : Bool) → r ≡ (at + room ≤ᵇ bytes) → s ≡ (at + room ≤ᵇ bytes) → r ≡ s
+room-unique bytes at = one-answer
+
 pub sheet-place-unique : (index : ℕ) (numbers : List ℤ) (at : ℕ) (buffer : List ℕ) (r s : ℕ)
     → r ≡ placeAfter (sheetLine index numbers) at buffer → s ≡ placeAfter (sheetLine index numbers) at buffer → r ≡ s
 sheet-place-unique index numbers at buffer = one-answer
