@@ -1,4 +1,3 @@
-pub mod Signs
 pub mod Bytes
 pub mod Printing
 pub mod Joined

@@ -1,5 +1,4 @@
 pub mod Rows
-pub mod Sizes
 pub mod Ways
 pub mod Zeros
 pub mod RoomRows

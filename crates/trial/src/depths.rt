@@ -1,40 +1,30 @@
 // The depth of nine figures: draft, length, soil, wave allowance, silting, interval's code, natural depth, speed, lanes.
+use crate::places;
 use datum::BelowLevel;
 use depth::Column;
 use depth::Depth;
 use depth::Stretch;
 use depth::Try;
-use lanes::Lanes;
-
-fn lanes_of(figure: u32) -> Lanes {
-    if figure == 1 { Lanes::One } else { Lanes::Two }
-}
-
-fn figure_at(figures: &[u32], k: usize) -> u32 {
-    if k < figures.len() { figures[k] } else { 0 }
-}
 
 fn stretch_of(figures: &[u32]) -> Stretch {
-    let interval = depth::interval_of((figure_at(figures, 5) % 256) as u8);
-    let natural = BelowLevel((figure_at(figures, 6) % 65536) as u16);
-    let lanes = lanes_of(figure_at(figures, 8));
+    let interval = depth::interval_of(places::small_at(figures, 5));
+    let natural = BelowLevel(places::short_at(figures, 6));
+    let lanes = places::lanes_of(places::figure_at(figures, 8));
     Stretch {
-        draft: (figure_at(figures, 0) % 65536) as u16,
-        length: (figure_at(figures, 1) % 65536) as u16,
-        soil: (figure_at(figures, 2) % 256) as u8,
-        allowance: (figure_at(figures, 3) % 65536) as u16,
-        silting: (figure_at(figures, 4) % 65536) as u16,
+        draft: places::short_at(figures, 0),
+        length: places::short_at(figures, 1),
+        soil: places::small_at(figures, 2),
+        allowance: places::short_at(figures, 3),
+        silting: places::short_at(figures, 4),
         interval,
         natural,
-        speed: (figure_at(figures, 7) % 256) as u8,
+        speed: places::small_at(figures, 7),
         lanes,
     }
 }
 
 fn store(place: &mut [u32], at: usize, figure: u64) {
-    if at < place.len() {
-        place[at] = (figure % 4294967296) as u32;
-    }
+    places::put(place, at, (figure % 4294967296) as u32);
 }
 
 // 0, cut, sailing depth and columns; or 9.

@@ -1,6 +1,6 @@
 // The width and the bend of a stretch, by figures in the order of the sheet's fields, then the lanes and the sailing depth.
+use crate::places;
 use datum::BelowLevel;
-use lanes::Lanes;
 use sheet::AlongCurrent;
 use sheet::CrossCurrent;
 use width::Bend;
@@ -9,55 +9,32 @@ use width::ItemsFound;
 use width::Stretch;
 use width::WidthFound;
 
-fn lanes_of(figure: u32) -> Lanes {
-    if figure == 1 { Lanes::One } else { Lanes::Two }
-}
-
-fn figure_at(figures: &[u32], k: usize) -> u32 {
-    if k < figures.len() { figures[k] } else { 0 }
-}
-
-fn small_at(figures: &[u32], k: usize) -> u8 {
-    (figure_at(figures, k) % 256) as u8
-}
-
-fn short_at(figures: &[u32], k: usize) -> u16 {
-    (figure_at(figures, k) % 65536) as u16
-}
-
 fn stretch_of(figures: &[u32]) -> Stretch {
-    let cross = CrossCurrent(small_at(figures, 6));
-    let along = AlongCurrent(small_at(figures, 7));
-    let lanes = lanes_of(figure_at(figures, 15));
-    let sailing = BelowLevel(short_at(figures, 16));
+    let cross = CrossCurrent(places::small_at(figures, 6));
+    let along = AlongCurrent(places::small_at(figures, 7));
+    let lanes = places::lanes_of(places::figure_at(figures, 15));
+    let sailing = BelowLevel(places::short_at(figures, 16));
     Stretch {
-        beam: short_at(figures, 0),
-        draft: short_at(figures, 1),
-        speed: small_at(figures, 2),
-        water: small_at(figures, 3),
-        handling: small_at(figures, 4),
-        wind: small_at(figures, 5),
+        beam: places::short_at(figures, 0),
+        draft: places::short_at(figures, 1),
+        speed: places::small_at(figures, 2),
+        water: places::small_at(figures, 3),
+        handling: places::small_at(figures, 4),
+        wind: places::small_at(figures, 5),
         cross,
         along,
-        wave: short_at(figures, 8),
-        aids: small_at(figures, 9),
-        bottom: small_at(figures, 10),
-        cargo: small_at(figures, 11),
-        left: small_at(figures, 12),
-        right: small_at(figures, 13),
-        ships: short_at(figures, 14),
+        wave: places::short_at(figures, 8),
+        aids: places::small_at(figures, 9),
+        bottom: places::small_at(figures, 10),
+        cargo: places::small_at(figures, 11),
+        left: places::small_at(figures, 12),
+        right: places::small_at(figures, 13),
+        ships: places::short_at(figures, 14),
         lanes,
         sailing,
     }
 }
 
-fn store(place: &mut [u32], at: usize, figure: u32) {
-    if at < place.len() {
-        place[at] = figure;
-    }
-}
-
-// The items in the order of the definition.
 fn item_at(items: Items, k: usize) -> u8 {
     match k {
         0 => items.lane,
@@ -78,7 +55,7 @@ fn item_at(items: Items, k: usize) -> u8 {
 fn store_items(place: &mut [u32], items: Items) {
     let mut k: usize = 0;
     while k < 12 {
-        store(&mut *place, k, item_at(items, k) as u32);
+        places::put(&mut *place, k, item_at(items, k) as u32);
         k += 1;
     }
 }
@@ -105,9 +82,9 @@ pub extern "C" fn trial_width(figures: &[u32], place: &mut [u32]) -> u32 {
     let answer = width::width_of(stretch);
     match answer {
         WidthFound::Found(cm) => {
-            store(&mut *place, 0, cm);
-            store(&mut *place, 1, class::width_class(cm, lanes) as u32);
-            store(&mut *place, 2, class::depth_class(sailing) as u32);
+            places::put(&mut *place, 0, cm);
+            places::put(&mut *place, 1, class::width_class(cm, lanes) as u32);
+            places::put(&mut *place, 2, class::depth_class(sailing) as u32);
             0
         }
         WidthFound::NoEntry => 8,
@@ -117,22 +94,22 @@ pub extern "C" fn trial_width(figures: &[u32], place: &mut [u32]) -> u32 {
 // Turn, radius, length, speed, lanes and deadweight: the widening and the ship's class into the place; 0, or 7.
 #[no_mangle]
 pub extern "C" fn trial_bend(figures: &[u32], place: &mut [u32]) -> u32 {
-    let lanes = lanes_of(figure_at(figures, 4));
+    let lanes = places::lanes_of(places::figure_at(figures, 4));
     let bend = width::bend_of(
-        small_at(figures, 0),
-        short_at(figures, 1),
-        short_at(figures, 2),
-        small_at(figures, 3),
+        places::small_at(figures, 0),
+        places::short_at(figures, 1),
+        places::short_at(figures, 2),
+        places::small_at(figures, 3),
         lanes,
     );
-    store(
+    places::put(
         &mut *place,
         1,
-        class::ship_class(figure_at(figures, 5)) as u32,
+        class::ship_class(places::figure_at(figures, 5)) as u32,
     );
     match bend {
         Bend::Widening(cm) => {
-            store(&mut *place, 0, cm);
+            places::put(&mut *place, 0, cm);
             0
         }
         Bend::TooTight => 7,

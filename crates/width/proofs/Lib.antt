@@ -3,6 +3,7 @@ pub mod Tables
 pub mod Entries
 pub mod Totals
 pub mod Curves
+pub mod Sizes
 pub mod Growth
 pub mod Meaning
 pub mod Cases

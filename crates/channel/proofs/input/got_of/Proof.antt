@@ -3,7 +3,7 @@
 use mir.Syntax.{w64}
 use mir.Val.{toZ, ofZ}
 use mir.Facts.{fits-natAbs, sfits-toZ, fits-ofZ}
-use Rattle.channel.proofs.Signs.{not-under}
+use Rattle.lines.proofs.Signs.{no-sign}
 use borrow.Author.Needs.{needs}
 use Rattle.channel.proofs.input.got_of.Statement.{statement}
 use Rattle.channel.proofs.input.got_of.Tie as tie
@@ -23,7 +23,7 @@ returns-2 c = search needs
 cast-count : tie.Need-cast-count
 cast-count c =
     let z = toZ w64 (ofZ w64 (c .before .args .answer)) in
-    (not-under z (c .if1 .left), fits-natAbs {w = w64} {w′ = w64} {z = z} tt (sfits-toZ (fits-ofZ (c .before .fits .answer))))
+    (no-sign z (c .if1 .left), fits-natAbs {w = w64} {w′ = w64} {z = z} tt (sfits-toZ (fits-ofZ (c .before .fits .answer))))
 
 returns-3 : tie.Need-returns-3
 returns-3 c = search needs

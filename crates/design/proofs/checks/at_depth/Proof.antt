@@ -6,7 +6,7 @@ use mir.Facts.{toZ-ofZ}
 use Rattle.sheet.proofs.Ranges.{ranges}
 use Rattle.width.specs.Width.{widthOf}
 use Rattle.design.specs.Design.{widthStretch, figuresOf}
-use Rattle.design.proofs.Sizes.{width-small}
+use Rattle.width.proofs.Sizes.{width-small}
 use Rattle.design.proofs.Ways.{with-width, without-width}
 use borrow.Author.Needs.{needs}
 use Rattle.design.proofs.checks.at_depth.Statement.{statement}

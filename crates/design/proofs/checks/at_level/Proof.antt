@@ -5,7 +5,7 @@ use native.Mathlib.Omega.{arith}
 use Rattle.sheet.proofs.Ranges.{ranges}
 use mir.Facts.{toZ-ofZ}
 use Rattle.design.specs.Design.{pastBend}
-use Rattle.design.proofs.Sizes.{widening-small}
+use Rattle.width.proofs.Sizes.{widening-small}
 use Rattle.design.proofs.Ways.{with-bend, too-tight}
 use borrow.Author.Needs.{needs}
 use Rattle.design.proofs.checks.at_level.Statement.{statement}

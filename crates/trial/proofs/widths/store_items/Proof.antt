@@ -9,7 +9,7 @@ use Rattle.trial.proofs.widths.store_items.Tie as tie
 use Rattle.trial.proofs.widths.store_items.Reads as reads
 use Rattle.trial.proofs.widths.store_items.Lts as lts
 use Rattle.trial.proofs.widths.item_at.Reads as item-at-reads
-use Rattle.trial.proofs.widths.store.Reads as store-reads
+use Rattle.trial.proofs.places.put.Reads as put-reads
 
 abbrev Inv-loop : tie.InvT-loop
 Inv-loop place₀ items k₀ place k = (k ≤ 12) × (length place ≡ length place₀)
@@ -23,11 +23,11 @@ loop-holds c = search needs
 item-at-requires : tie.Need-item-at-requires Inv-loop μ-loop
 item-at-requires c κs = search needs
 
-cast-store : tie.Need-cast-store Inv-loop μ-loop
-cast-store c = search needs
+cast-put : tie.Need-cast-put Inv-loop μ-loop
+cast-put c = search needs
 
-store-requires : tie.Need-store-requires Inv-loop μ-loop
-store-requires c κs = search needs
+put-requires : tie.Need-put-requires Inv-loop μ-loop
+put-requires c κs = search needs
 
 add-k : tie.Need-add-k Inv-loop μ-loop
 add-k c = search needs
@@ -52,8 +52,8 @@ store-items-spec =
     μ-loop
     loop-holds
     item-at-requires
-    cast-store
-    store-requires
+    cast-put
+    put-requires
     add-k
     loop-less
     loop-again

@@ -1,4 +1,4 @@
--- The figures that become signed numbers are small: the width, the widening and a bad field's number.
+-- The width and the widening are under 2 ^ 31, so that they can stand as signed numbers.
 -- Assumes nothing.
 use mathlib.Core.Path.{_≡_, refl}
 use mathlib.Core.Bool.{Bool, true, false}
@@ -13,27 +13,28 @@ use Rattle.sheet.specs.declared.CrossCurrent.{CrossCurrent}
 use Rattle.sheet.specs.declared.AlongCurrent.{AlongCurrent}
 use Rattle.lanes.specs.declared.Lanes.{Lanes}
 use Rattle.lanes.specs.declared.Lanes.the-variants.{One, Two}
 use Rattle.width.specs.Bands.{by_in-open_in-sheltered_, for_moderate_slow_, waterOf, speedBandOf, crossEntry, alongItem, waveEntry}
-use Rattle.width.specs.Additions.{laneItem, windItem, aidsItem, bedItem, depthItem, cargoItem, bankItem, banksItem, passingItem, trafficItem}
+use Rattle.width.specs.Additions.{laneItem, windItem, aidsItem, bedItem, depthItem, cargoItem, banksItem, passingItem, trafficItem}
 use Rattle.width.specs.Bends.{leastLengths, laneCount, wideningOf, bendOf, LongEnough}
 use Rattle.width.specs.declared.Bend.{Bend}
 use Rattle.width.specs.declared.Bend.the-variants.{Widening, TooTight}
+use Rattle.width.proofs.Banks.{bank-within}
 use Rattle.width.proofs.Curves.{lengths-within, lanes-within, ship-within, widening-within, widening-is}
 use borrow.Author.Tests.{ltb-true, ltb-false}
 use lib.Dec.{ltb}
 use Rattle.width.specs.Width.{itemsWith, itemsAt, itemsOf, tenthsOf, widthFrom, widthOf}
 use Rattle.width.specs.declared.Stretch.{Stretch}
 use Rattle.width.specs.declared.Water.{Water}
 use Rattle.width.specs.declared.Water.the-variants.{Open, Sheltered}
 use Rattle.width.specs.declared.SpeedBand.{SpeedBand}
 use Rattle.width.specs.declared.SpeedBand.the-variants.{Moderate, Slow}
 use Rattle.width.specs.declared.Entry.{Entry}
 use Rattle.width.specs.declared.Entry.the-variants.{Tenths, Blank}
 use Rattle.width.specs.declared.Items.{Items}
 use Rattle.width.specs.declared.ItemsFound.{ItemsFound}
 use Rattle.width.specs.declared.ItemsFound.the-variants.{Listed, NoEntry as NoItems}
 use Rattle.width.specs.declared.WidthFound.{WidthFound}
 use Rattle.width.specs.declared.WidthFound.the-variants.{Found, NoEntry}
 
 -- both ways of a choice
 either : (test : Bool) (a b n : ℕ) → a ≤ n → b ≤ n → (if test then a else b) ≤ n
@@ -86,10 +87,6 @@ unfolding cargoItem
 cargo-within water cargo =
     either (cargo =ᵇ 0) 0 _ 10 (omega arith)
     (either (cargo =ᵇ 1) _ _ 10 (watered water 5 4 10 (omega arith) (omega arith)) (watered water 10 8 10 (omega arith) (omega arith)))
-
-bank-within : (band : SpeedBand) (bank : ℕ) → bankItem band bank ≤ 10
-unfolding bankItem
-bank-within band bank = either (bank =ᵇ 0) _ _ 10 (paced band 5 3 10 (omega arith) (omega arith)) (paced band 10 5 10 (omega arith) (omega arith))
 
 banks-within : (band : SpeedBand) (left right : ℕ) → banksItem band left right ≤ 20
 unfolding banksItem
