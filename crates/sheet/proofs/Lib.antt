@@ -5,6 +5,8 @@ pub mod Widths
 pub mod Types
 pub mod RoundTrip
 pub mod Rules
+pub mod Runs
+pub mod BadRuns
 pub mod Valid
 pub mod Packed
 pub mod Spare
