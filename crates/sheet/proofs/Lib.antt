@@ -2,6 +2,7 @@ pub mod Groups
 pub mod Steps
 pub mod Regroup
 pub mod Widths
+pub mod Splitting
 pub mod Types
 pub mod RoundTrip
 pub mod Rules
