@@ -148,8 +148,38 @@ fn magnitude(number: i32) -> u64
     number as u64
 }
 
-// A count: its digits from the last to the first.
+// A count: its digits from the last to the first, up to four of them with no loop.
 fn put_count(count: u64, buffer: &mut [u8], at: usize) -> usize
+    requires { ⌜ at + 20 ≤ length (now buffer) ⌝ }
+    ensures { λ r. ⌜ Put (now (buffer .entry)) at (countText count) (now (buffer .exit)) r × (r ≤ at + 20) ⌝ }
+{
+    if count < 10 {
+        buffer[at] = (ZERO + count) as u8;
+        return at + 1;
+    }
+    if count < 100 {
+        buffer[at + 1] = (ZERO + count % 10) as u8;
+        buffer[at] = (ZERO + count / 10) as u8;
+        return at + 2;
+    }
+    if count < 1000 {
+        buffer[at + 2] = (ZERO + count % 10) as u8;
+        buffer[at + 1] = (ZERO + count / 10 % 10) as u8;
+        buffer[at] = (ZERO + count / 100) as u8;
+        return at + 3;
+    }
+    if count < 10000 {
+        buffer[at + 3] = (ZERO + count % 10) as u8;
+        buffer[at + 2] = (ZERO + count / 10 % 10) as u8;
+        buffer[at + 1] = (ZERO + count / 100 % 10) as u8;
+        buffer[at] = (ZERO + count / 1000) as u8;
+        return at + 4;
+    }
+    put_long_count(count, buffer, at)
+}
+
+// A count of any length.
+fn put_long_count(count: u64, buffer: &mut [u8], at: usize) -> usize
     requires { ⌜ at + 20 ≤ length (now buffer) ⌝ }
     ensures { λ r. ⌜ Put (now (buffer .entry)) at (countText count) (now (buffer .exit)) r × (r ≤ at + 20) ⌝ }
 {
