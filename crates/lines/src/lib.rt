@@ -1,9 +1,9 @@
 // The lines of the printing program: their text in decimal, put into a lent buffer.
 ghost use mathlib.Core.Path.{_≡_};
 ghost use mathlib.Core.List.{[], _∷_, map};
-ghost use Prim.Native.Nat.{_+_, _≤_, _<_};
+ghost use Prim.Native.Nat.{_+_, _-_, _*_, _≤_, _<_};
 ghost use lib.IntN.{natAbs};
-ghost use lib.ListN.{length};
+ghost use lib.ListN.{length, take, drop};
 ghost use Rattle.laws.specs.Choice.{_≤ᵇ_};
 ghost use Rattle.lines.specs.Decimals.{digits, countText, numberText};
 ghost use Rattle.lines.specs.Lines.{room, spaced, lineText, sheetLine, levelsLine, routeLine, placeAfter, bufferAfter, Put};
@@ -96,14 +96,23 @@ fn put_letter_line(letter: u8, counts: [u64; COUNTS], buffer: &mut [u8], at: usi
     last + 1
 }
 
-// Signed numbers, each behind one space.
+// Signed numbers, each behind one space. In two short runs: the compiler lays each out flat.
 fn put_numbers(numbers: [i32; NUMBERS], buffer: &mut [u8], at: usize) -> usize
     requires { ⌜ at + 172 ≤ length (now buffer) ⌝ }
     ensures { λ r. ⌜ Put (now (buffer .entry)) at (spaced (map numberText numbers)) (now (buffer .exit)) r × (r ≤ at + 156) ⌝ }
 {
+    let middle = put_run(numbers, 0, 7, buffer, at);
+    put_run(numbers, 7, NUMBERS, buffer, middle)
+}
+
+// The numbers past the first `from`, up to `to`.
+fn put_run(numbers: [i32; NUMBERS], from: usize, to: usize, buffer: &mut [u8], at: usize) -> usize
+    requires { ⌜ (from ≤ to) × (to ≤ 13) × (at + 12 * (to - from) + 16 ≤ length (now buffer)) ⌝ }
+    ensures { λ r. ⌜ Put (now (buffer .entry)) at (spaced (map numberText (take (to - from) (drop from numbers)))) (now (buffer .exit)) r × (r ≤ at + 12 * (to - from)) ⌝ }
+{
     let mut end = at;
-    let mut i: usize = 0;
-    while i < NUMBERS {
+    let mut i = from;
+    while i < to {
         buffer[end] = SPACE;
         end = put_number(numbers[i], buffer, end + 1);
         i += 1;
@@ -135,7 +144,20 @@ fn put_number(number: i32, buffer: &mut [u8], at: usize) -> usize
         buffer[at] = MINUS;
         return put_count(magnitude(number), buffer, at + 1);
     }
-    put_count(magnitude(number), buffer, at)
+    let count = magnitude(number);
+    if count < 10 {
+        return put_digit(count, buffer, at);
+    }
+    put_count(count, buffer, at)
+}
+
+// A count of one digit.
+fn put_digit(count: u64, buffer: &mut [u8], at: usize) -> usize
+    requires { ⌜ (count < 10) × (at < length (now buffer)) ⌝ }
+    ensures { λ r. ⌜ Put (now (buffer .entry)) at (countText count) (now (buffer .exit)) r × (r ≤ at + 1) ⌝ }
+{
+    buffer[at] = (ZERO + count) as u8;
+    at + 1
 }
 
 // A number without its sign.
@@ -154,8 +176,7 @@ fn put_count(count: u64, buffer: &mut [u8], at: usize) -> usize
     ensures { λ r. ⌜ Put (now (buffer .entry)) at (countText count) (now (buffer .exit)) r × (r ≤ at + 20) ⌝ }
 {
     if count < 10 {
-        buffer[at] = (ZERO + count) as u8;
-        return at + 1;
+        return put_digit(count, buffer, at);
     }
     if count < 100 {
         buffer[at + 1] = (ZERO + count % 10) as u8;
