@@ -130,10 +130,9 @@ struct Turn {
     failed: bool,
 }
 
-// One block of the input, full or to its end.
-fn print_some(level: LevelRead, buffer: &mut [u8], state: State) -> Turn {
-    let mut space = [0u8; BLOCK];
-    let filled = input::fill(STDIN_FILENO, &mut space);
+// One block of the input, full or to its end, in a space that is made once for all blocks.
+fn print_some(level: LevelRead, space: &mut [u8], buffer: &mut [u8], state: State) -> Turn {
+    let filled = input::fill(STDIN_FILENO, &mut *space);
     let count = filled.count;
     let whole = print_block(level, &space[..count], &mut *buffer, state);
     if filled.failed {
@@ -181,10 +180,11 @@ pub fn print_all(level: LevelRead, buffer: &mut [u8], at: usize) {
             class: class::NONE_ANSWERED,
         },
     };
+    let mut space = [0u8; BLOCK];
     let mut failed = false;
     let mut turns: u64 = 18446744073709551615;
     while 0 < turns {
-        let turn = print_some(level, &mut *buffer, state);
+        let turn = print_some(level, &mut space, &mut *buffer, state);
         let after = turn.state;
         state = after;
         failed = turn.failed;

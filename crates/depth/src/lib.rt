@@ -1,6 +1,7 @@
 // Depth below the design level: the worksheet, and the cut it ends in (definition, section 4).
 ghost use mathlib.Core.Path.{_≡_};
 ghost use Prim.Native.Nat.{_+_, _-_, _*_, _^_, _≤_, _<_};
+ghost use lib.ListN.{getD};
 ghost use Rattle.laws.specs.Rounding.{up};
 ghost use Rattle.depth.specs.Interval.{intervalOf};
 ghost use Rattle.depth.specs.Squat.{columnNumber, squatReading, squatOf};
@@ -301,12 +302,27 @@ fn answer_of(last: Try, columns: u8) -> Depth
     }
 }
 
+// The last line of a worksheet that has one. By cases, so that the compiler need not lay the worksheet out.
+fn last_line(worksheet: Worksheet) -> Try
+    requires { ⌜ (1 ≤ worksheet .count) × (worksheet .count ≤ 3) ⌝ }
+    ensures { λ r. ⌜ r ≡ getD (worksheet .tries) (worksheet .count - 1) blankTry ⌝ }
+{
+    let count = worksheet.count;
+    if count == 1 {
+        return worksheet.tries[0];
+    }
+    if count == 2 {
+        return worksheet.tries[1];
+    }
+    worksheet.tries[2]
+}
+
 // The depth of a stretch: the last try of its worksheet.
 pub fn work_depth(stretch: Stretch) -> Depth
     ensures { λ r. ⌜ r ≡ workDepth stretch ⌝ }
 {
     let worksheet = fill_worksheet(stretch);
     let count = worksheet.count;
-    let last = worksheet.tries[count as usize - 1];
+    let last = last_line(worksheet);
     answer_of(last, count)
 }

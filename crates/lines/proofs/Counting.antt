@@ -1,7 +1,7 @@
 -- A count's text, put from its last digit to its first.
 -- The digits that stand already end the text; what is left to put is the text of what is left of the count.
 -- Assumes nothing.
-use mathlib.Core.Path.{_≡_, ap, sym, _∙_}
+use mathlib.Core.Path.{_≡_, refl, ap, sym, _∙_}
 use mathlib.Core.List.{List, [], _∷_, _++_, map-append, append-assoc, append-nil}
 use Prim.Native.Nat.{ℕ, suc, _+_, _-_, _/_, _%_, _^_, _≤_, _<_}
 use native.Mathlib.Omega.{arith}
@@ -9,7 +9,7 @@ use lib.ListN.{length, take, drop, set, getD, take-append-drop, length-map}
 use lib.Seq.{take-suc, set-at, length-take-le}
 use Rattle.lines.specs.Decimals.{digits, byteOf, countText}
 use Rattle.lines.specs.Lines.{withText, Put}
-use Rattle.lines.proofs.Digits.{digits-one, digits-more, places-at-most, places-more, places-one}
+use Rattle.lines.proofs.Digits.{digits-one, digits-more, places-at-most, places-more, places-one, places-two, places-three, places-four}
 
 pub count-length : (n : ℕ) → length (countText n) ≡ length (digits n)
 unfolding countText
@@ -73,3 +73,56 @@ module _ (buffer : List ℕ) (at n : ℕ) where
           holds = rw p at (stored (byteOf rest) (omega (arith, s .left, places-one rest h)) room)
               ∙ ap (λ (l : List ℕ). take at buffer ++ (l ++ drop (at + length (countText n)) buffer)) (sym t);
         }
+
+  at-place : {later : List ℕ} {p q rest : ℕ} → p ≡ q → Standing buffer at n later p rest → Standing buffer at n later q rest
+  at-place e s = rw e at s
+
+  -- one digit more in front of those that stand, as a store states it
+  before-stands : (later : List ℕ) (place rest rest′ : ℕ) → Standing buffer at n later (place + 1) rest → 10 ≤ rest → rest / 10 ≡ rest′
+      → place < length buffer → Standing buffer at n (set later place (byteOf (rest % 10))) place rest′
+  before-stands later place rest rest′ s h e room =
+      let p : place + 1 - 1 ≡ place = omega arith in
+      rw (p, e) at (one-more-stands later (place + 1) rest s h (omega arith))
+
+  -- the first digit, and with it all of them
+  first-stands : (later : List ℕ) (rest end : ℕ) → Standing buffer at n later (at + 1) rest → rest < 10 → end ≡ at + length (digits n)
+      → at < length buffer → Put buffer at (countText n) (set later at (byteOf rest)) end
+  first-stands later rest end s h e room = all-stands later (at + 1) rest s end e h (omega arith)
+
+  pub one-stands : n < 10 → at < length buffer → Put buffer at (countText n) (set buffer at (byteOf n)) (at + 1)
+  one-stands h room =
+      let e : at + 1 ≡ at + length (digits n) = omega (arith, places-one n h) in
+      first-stands buffer n (at + 1) (none-stands (at + 1) e) h e room
+
+  pub two-stand : 10 ≤ n → n < 100 → at + 2 ≤ length buffer
+      → Put buffer at (countText n) (set (set buffer (at + 1) (byteOf (n % 10))) at (byteOf (n / 10))) (at + 2)
+  two-stand l h room =
+      let e : at + 2 ≡ at + length (digits n) = omega (arith, places-two n l h) in
+      let e′ : at + 1 + 1 ≡ at + length (digits n) = omega (arith, places-two n l h) in
+      let last = before-stands buffer (at + 1) n (n / 10) (none-stands (at + 1 + 1) e′) l refl (omega arith) in
+      first-stands _ (n / 10) (at + 2) last (omega arith) e (omega arith)
+
+  pub three-stand : 100 ≤ n → n < 1000 → at + 3 ≤ length buffer
+      → Put buffer at (countText n)
+      (set (set (set buffer (at + 2) (byteOf (n % 10))) (at + 1) (byteOf (n / 10 % 10))) at (byteOf (n / 100))) (at + 3)
+  three-stand l h room =
+      let e : at + 3 ≡ at + length (digits n) = omega (arith, places-three n l h) in
+      let e′ : at + 2 + 1 ≡ at + length (digits n) = omega (arith, places-three n l h) in
+      let last = before-stands buffer (at + 2) n (n / 10) (none-stands (at + 2 + 1) e′) (omega arith) refl (omega arith) in
+      let p : at + 2 ≡ at + 1 + 1 = omega arith in
+      let next = before-stands _ (at + 1) (n / 10) (n / 100) (at-place p last) (omega arith) (omega arith) (omega arith) in
+      first-stands _ (n / 100) (at + 3) next (omega arith) e (omega arith)
+
+  pub four-stand : 1000 ≤ n → n < 10000 → at + 4 ≤ length buffer
+      → Put buffer at (countText n)
+      (set (set (set (set buffer (at + 3) (byteOf (n % 10))) (at + 2) (byteOf (n / 10 % 10))) (at + 1) (byteOf (n / 100 % 10))) at (byteOf (n / 1000)))
+      (at + 4)
+  four-stand l h room =
+      let e : at + 4 ≡ at + length (digits n) = omega (arith, places-four n l h) in
+      let e′ : at + 3 + 1 ≡ at + length (digits n) = omega (arith, places-four n l h) in
+      let last = before-stands buffer (at + 3) n (n / 10) (none-stands (at + 3 + 1) e′) (omega arith) refl (omega arith) in
+      let p : at + 3 ≡ at + 2 + 1 = omega arith in
+      let third = before-stands _ (at + 2) (n / 10) (n / 100) (at-place p last) (omega arith) (omega arith) (omega arith) in
+      let q : at + 2 ≡ at + 1 + 1 = omega arith in
+      let second = before-stands _ (at + 1) (n / 100) (n / 1000) (at-place q third) (omega arith) (omega arith) (omega arith) in
+      first-stands _ (n / 1000) (at + 4) second (omega arith) e (omega arith)

@@ -5,7 +5,7 @@ use mathlib.Core.List.{List, [], _∷_, _++_, map, map-append, append-assoc, app
 use Prim.Native.Nat.{ℕ, _+_, _≤_, _<_}
 use native.Mathlib.Numerals.{add-one}
 use native.Mathlib.Omega.{arith}
-use lib.ListN.{length, take, getD, set}
+use lib.ListN.{length, take, drop, getD, set, length-drop, take-append-drop}
 use lib.Seq.{take-suc, take-all}
 use Rattle.lines.specs.Lines.{space, spaced, Put}
 use Rattle.lines.proofs.Placing.{put-none, put-on, then-byte}
@@ -51,3 +51,14 @@ module _ {A : Type 0} (text : A → List ℕ) (words : List A) (buffer : List �
 
   pub all-words : (i : ℕ) (later : List ℕ) (end : ℕ) → length words ≤ i → Words i later end → Put buffer at (spaced (map text words)) later end
   all-words i later end h p = rw (take-all i words h) at p
+
+  -- all of them in two runs: the first k, and those past them
+  pub two-runs : (k m : ℕ) (middle later : List ℕ) (end last : ℕ) → length words ≤ k + m → end ≤ length buffer
+      → Put buffer at (spaced (map text (take k words))) middle end
+      → Put middle end (spaced (map text (take m (drop k words)))) later last → Put buffer at (spaced (map text words)) later last
+  two-runs k m middle later end last all fits p q =
+      let rest : take m (drop k words) ≡ drop k words = take-all m (drop k words) (omega (arith, length-drop k words)) in
+      let whole : spaced (map text (take k words)) ++ spaced (map text (drop k words)) ≡ spaced (map text words) =
+      sym (spaced-append (map text (take k words)) (map text (drop k words)))
+      ∙ ap spaced (sym (map-append text (take k words) (drop k words)) ∙ ap (map text) (take-append-drop k words)) in
+      rw whole at (put-on buffer at _ _ middle later end last (omega (arith, p .after)) p (rw rest at q))

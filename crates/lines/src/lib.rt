@@ -1,9 +1,9 @@
 // The lines of the printing program: their text in decimal, put into a lent buffer.
 ghost use mathlib.Core.Path.{_≡_};
 ghost use mathlib.Core.List.{[], _∷_, map};
-ghost use Prim.Native.Nat.{_+_, _≤_, _<_};
+ghost use Prim.Native.Nat.{_+_, _-_, _*_, _≤_, _<_};
 ghost use lib.IntN.{natAbs};
-ghost use lib.ListN.{length};
+ghost use lib.ListN.{length, take, drop};
 ghost use Rattle.laws.specs.Choice.{_≤ᵇ_};
 ghost use Rattle.lines.specs.Decimals.{digits, countText, numberText};
 ghost use Rattle.lines.specs.Lines.{room, spaced, lineText, sheetLine, levelsLine, routeLine, placeAfter, bufferAfter, Put};
@@ -96,14 +96,23 @@ fn put_letter_line(letter: u8, counts: [u64; COUNTS], buffer: &mut [u8], at: usi
     last + 1
 }
 
-// Signed numbers, each behind one space.
+// Signed numbers, each behind one space. In two short runs: the compiler lays each out flat.
 fn put_numbers(numbers: [i32; NUMBERS], buffer: &mut [u8], at: usize) -> usize
     requires { ⌜ at + 172 ≤ length (now buffer) ⌝ }
     ensures { λ r. ⌜ Put (now (buffer .entry)) at (spaced (map numberText numbers)) (now (buffer .exit)) r × (r ≤ at + 156) ⌝ }
 {
+    let middle = put_run(numbers, 0, 7, buffer, at);
+    put_run(numbers, 7, NUMBERS, buffer, middle)
+}
+
+// The numbers past the first `from`, up to `to`.
+fn put_run(numbers: [i32; NUMBERS], from: usize, to: usize, buffer: &mut [u8], at: usize) -> usize
+    requires { ⌜ (from ≤ to) × (to ≤ 13) × (at + 12 * (to - from) + 16 ≤ length (now buffer)) ⌝ }
+    ensures { λ r. ⌜ Put (now (buffer .entry)) at (spaced (map numberText (take (to - from) (drop from numbers)))) (now (buffer .exit)) r × (r ≤ at + 12 * (to - from)) ⌝ }
+{
     let mut end = at;
-    let mut i: usize = 0;
-    while i < NUMBERS {
+    let mut i = from;
+    while i < to {
         buffer[end] = SPACE;
         end = put_number(numbers[i], buffer, end + 1);
         i += 1;
@@ -135,7 +144,20 @@ fn put_number(number: i32, buffer: &mut [u8], at: usize) -> usize
         buffer[at] = MINUS;
         return put_count(magnitude(number), buffer, at + 1);
     }
-    put_count(magnitude(number), buffer, at)
+    let count = magnitude(number);
+    if count < 10 {
+        return put_digit(count, buffer, at);
+    }
+    put_count(count, buffer, at)
+}
+
+// A count of one digit.
+fn put_digit(count: u64, buffer: &mut [u8], at: usize) -> usize
+    requires { ⌜ (count < 10) × (at < length (now buffer)) ⌝ }
+    ensures { λ r. ⌜ Put (now (buffer .entry)) at (countText count) (now (buffer .exit)) r × (r ≤ at + 1) ⌝ }
+{
+    buffer[at] = (ZERO + count) as u8;
+    at + 1
 }
 
 // A number without its sign.
@@ -148,8 +170,37 @@ fn magnitude(number: i32) -> u64
     number as u64
 }
 
-// A count: its digits from the last to the first.
+// A count: its digits from the last to the first, up to four of them with no loop.
 fn put_count(count: u64, buffer: &mut [u8], at: usize) -> usize
+    requires { ⌜ at + 20 ≤ length (now buffer) ⌝ }
+    ensures { λ r. ⌜ Put (now (buffer .entry)) at (countText count) (now (buffer .exit)) r × (r ≤ at + 20) ⌝ }
+{
+    if count < 10 {
+        return put_digit(count, buffer, at);
+    }
+    if count < 100 {
+        buffer[at + 1] = (ZERO + count % 10) as u8;
+        buffer[at] = (ZERO + count / 10) as u8;
+        return at + 2;
+    }
+    if count < 1000 {
+        buffer[at + 2] = (ZERO + count % 10) as u8;
+        buffer[at + 1] = (ZERO + count / 10 % 10) as u8;
+        buffer[at] = (ZERO + count / 100) as u8;
+        return at + 3;
+    }
+    if count < 10000 {
+        buffer[at + 3] = (ZERO + count % 10) as u8;
+        buffer[at + 2] = (ZERO + count / 10 % 10) as u8;
+        buffer[at + 1] = (ZERO + count / 100 % 10) as u8;
+        buffer[at] = (ZERO + count / 1000) as u8;
+        return at + 4;
+    }
+    put_long_count(count, buffer, at)
+}
+
+// A count of any length.
+fn put_long_count(count: u64, buffer: &mut [u8], at: usize) -> usize
     requires { ⌜ at + 20 ≤ length (now buffer) ⌝ }
     ensures { λ r. ⌜ Put (now (buffer .entry)) at (countText count) (now (buffer .exit)) r × (r ≤ at + 20) ⌝ }
 {

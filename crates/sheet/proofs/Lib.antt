@@ -2,9 +2,12 @@ pub mod Groups
 pub mod Steps
 pub mod Regroup
 pub mod Widths
+pub mod Splitting
 pub mod Types
 pub mod RoundTrip
 pub mod Rules
+pub mod Runs
+pub mod BadRuns
 pub mod Valid
 pub mod Packed
 pub mod Spare

@@ -12,8 +12,9 @@ use lib.Seq.{ext-getD, getD-set-same, getD-set-other}
 use Rattle.sheet.specs.Bits.{starts, joined, cut}
 use Rattle.sheet.specs.Fields.{nth}
 use Rattle.sheet.specs.Packing.{listed}
+use Rattle.sheet.specs.Regrouping.{Mid}
 use Rattle.sheet.proofs.Groups.{cut-joined}
-use Rattle.sheet.proofs.Steps.{Tail, put-tail, take-tail, first-lt}
+use Rattle.sheet.proofs.Steps.{put-tail, take-tail, first-lt}
 
 -- joining looks at the groups that it joins and at no other
 pub joined-same : (w u v : ℕ → ℕ) (n : ℕ) → ((k : ℕ) → k < n → u k ≡ v k) → joined w u n ≡ joined w v n
@@ -29,12 +30,6 @@ joined-next w v n = rw add-one
 pub starts-next : (w : ℕ → ℕ) (n : ℕ) → starts w (n + 1) ≡ starts w n + w n
 unfolding starts
 starts-next w n = rw add-one
-
--- p groups are taken in, q are given out, and b holds the n bits between
-pub record Mid (wi vi wo vo : ℕ → ℕ) (p q b n : ℕ) : Type 0 where
-  pub tail : Tail (joined wi vi p) (joined wo vo q) b n
-  pub place : starts wi p ≡ starts wo q + n
-  pub below : (k : ℕ) → k < q → vo k < 2 ^ wo k
 
 module _ (wi vi wo : ℕ → ℕ) where
   pub mid-start : (vo : ℕ → ℕ) → Mid wi vi wo vo 0 0 0 0

@@ -2,10 +2,10 @@
 use mathlib.Core.Path.{_≡_}
 use mathlib.Core.Bool.{Bool, true, false, _||_, _&&_, not, Bool·beq}
 use mathlib.Core.List.{List, [], _∷_}
-use Prim.Native.Nat.{ℕ, suc, _<_}
+use Prim.Native.Nat.{ℕ, suc, _-_, _<_}
 use lib.ListN.{getD}
 use Rattle.laws.specs.Choice.{if_then_else_, _<ᵇ_, _=ᵇ_}
-use Rattle.laws.specs.First.{firstOf}
+use Rattle.laws.specs.First.{firstFrom, firstOf}
 use Rattle.sheet.specs.declared.fields.Field.{Field}
 
 -- a field's bits, its least and its greatest value
@@ -84,6 +84,13 @@ pairBad figures k =
 -- the field after the first k is bad: outside its values, or against another
 unfoldable pub badAt : List ℕ → ℕ → Bool
 badAt figures k = (nth figures k <ᵇ least k) || ((greatest k <ᵇ nth figures k) || pairBad figures k)
+
+-- the same without the pairs, and the number of the first such field past the first from, up to to
+unfoldable pub outsideAt : List ℕ → ℕ → Bool
+outsideAt figures k = (nth figures k <ᵇ least k) || (greatest k <ᵇ nth figures k)
+
+unfoldable pub firstOutside : List ℕ → ℕ → ℕ → ℕ
+firstOutside figures from to = firstFrom (outsideAt figures) from (to - from)
 
 -- the number of the first bad field, 0 where there is none
 unfoldable pub firstBad : List ℕ → ℕ

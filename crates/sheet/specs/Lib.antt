@@ -2,5 +2,6 @@
 pub mod Bits
 pub mod Fields
 pub mod Packing
+pub mod Regrouping
 pub mod Sheets
 pub mod Refusals

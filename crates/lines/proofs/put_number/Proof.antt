@@ -1,4 +1,4 @@
--- `lines::put_number` meets its contract: a way out for each sign.
+-- `lines::put_number` meets its contract: a way out for each sign, and one for a single digit.
 -- Assumes nothing.
 use mathlib.Core.Path.{_≡_, ap, _∙_}
 use lib.IntN.{natAbs}
@@ -7,10 +7,15 @@ use mir.Val.{toZ, ofZ}
 use mir.Facts.{toZ-ofZ}
 use Rattle.lines.proofs.Signs.{put-negative, put-plain}
 use native.Mathlib.Omega.{arith}
-use borrow.Author.Needs.{needs}
 use lib.ListN.{length-set}
+use borrow.Author.Needs.{needs}
 use Rattle.lines.proofs.put_number.Statement.{statement}
 use Rattle.lines.proofs.put_number.Tie as tie
+use Rattle.lines.proofs.put_number.Reads as reads
+use Rattle.lines.proofs.put_number.Lts as lts
+use Rattle.lines.proofs.magnitude.Reads as magnitude-reads
+use Rattle.lines.proofs.put_count.Reads as put-count-reads
+use Rattle.lines.proofs.put_digit.Reads as put-digit-reads
 
 -- the number as it is read
 read-back : (s : tie.Start) → toZ w32 (ofZ w32 (s .args .number)) ≡ s .args .number
@@ -41,18 +46,33 @@ returns c =
 magnitude-requires-2 : tie.Need-magnitude-requires-2
 magnitude-requires-2 c κs = search needs
 
-put-count-requires-2 : tie.Need-put-count-requires-2
-put-count-requires-2 c κs = search needs
+put-digit-requires : tie.Need-put-digit-requires
+put-digit-requires c κs = search needs
 
 same-length-2 : tie.Need-same-length-2
 same-length-2 c = search needs
 
 returns-2 : tie.Need-returns-2
 returns-2 c =
-    let s = c .before .before .before .before .before .before .before in
-    let m : c .before .before .before .before .magnitude2 .result ≡ natAbs (s .args .number) = c .before .before .before .before .magnitude2 .ensures ∙ ap natAbs (read-back s) in
-    put-plain (s .args .number) (s .fits .number) (s .args .buffer .now) (s .args .at) _ _
-    (rw (read-back s) at (c .before .before .before .before .before .if1 .left)) (rw m at (c .before .before .put-count2 .ensures .0))
+    let g = c .before .before .before .before .before in
+    let s = g .before .before .before in
+    let m : g .magnitude2 .result ≡ natAbs (s .args .number) = g .magnitude2 .ensures ∙ ap natAbs (read-back s) in
+    put-plain (s .args .number) (s .fits .number) (s .args .buffer .now) (s .args .at) _ _ (rw (read-back s) at (g .before .if1 .left))
+    (rw m at (c .before .before .put-digit .ensures .0))
+
+put-count-requires-2 : tie.Need-put-count-requires-2
+put-count-requires-2 c κs = search needs
+
+same-length-3 : tie.Need-same-length-3
+same-length-3 c = search needs
+
+returns-3 : tie.Need-returns-3
+returns-3 c =
+    let g = c .before .before .before .before .before in
+    let s = g .before .before .before in
+    let m : g .magnitude2 .result ≡ natAbs (s .args .number) = g .magnitude2 .ensures ∙ ap natAbs (read-back s) in
+    put-plain (s .args .number) (s .fits .number) (s .args .buffer .now) (s .args .at) _ _ (rw (read-back s) at (g .before .if1 .left))
+    (rw m at (c .before .before .put-count2 .ensures .0))
 
 pub put-number-spec : {M : Type 1} → statement M
 put-number-spec =
@@ -65,6 +85,9 @@ put-number-spec =
     same-length
     returns
     magnitude-requires-2
-    put-count-requires-2
+    put-digit-requires
     same-length-2
-    returns-2)
+    returns-2
+    put-count-requires-2
+    same-length-3
+    returns-3)

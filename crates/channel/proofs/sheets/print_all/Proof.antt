@@ -12,13 +12,16 @@ use Rattle.channel.proofs.sheets.print_end.Reads as print-end-reads
 use Rattle.channel.proofs.sheets.print_some.Reads as print-some-reads
 
 abbrev Inv-loop : tie.InvT-loop
-Inv-loop level buffer₀ at state₀ failed₀ turns₀ buffer state failed turns = length buffer ≡ length buffer₀
+Inv-loop level buffer₀ at state₀ space₀ failed₀ turns₀ buffer state space failed turns = (length buffer ≡ length buffer₀) × (length space ≡ 65520)
 
 abbrev μ-loop : tie.MeasureT-loop
-μ-loop level buffer₀ at state₀ failed₀ turns₀ buffer state failed turns = turns
+μ-loop level buffer₀ at state₀ space₀ failed₀ turns₀ buffer state space failed turns = turns
 
 loop-holds : tie.Need-loop-holds Inv-loop μ-loop
 loop-holds c = search needs
+
+slice-aggregate-print-some : tie.Need-slice-aggregate-print-some Inv-loop μ-loop
+slice-aggregate-print-some c = search needs
 
 print-some-requires : tie.Need-print-some-requires Inv-loop μ-loop
 print-some-requires c κs = search needs
@@ -48,6 +51,7 @@ print-all-spec =
     Inv-loop
     μ-loop
     loop-holds
+    slice-aggregate-print-some
     print-some-requires
     left-requires
     loop-less

@@ -11,14 +11,11 @@ use Rattle.channel.proofs.input.fill.Reads as fill-reads
 use Rattle.channel.proofs.sheets.print_block.Reads as print-block-reads
 use Rattle.channel.proofs.sheets.print_rest.Reads as print-rest-reads
 
-slice-aggregate-fill : tie.Need-slice-aggregate-fill
-slice-aggregate-fill c = search needs
-
 fill-requires : tie.Need-fill-requires
 fill-requires c κs = search needs
 
-array-share-prefix-space : tie.Need-array-share-prefix-space
-array-share-prefix-space c = search needs
+slice-reshare-prefix-print-block : tie.Need-slice-reshare-prefix-print-block
+slice-reshare-prefix-print-block c = search needs
 
 slice-aggregate-print-block : tie.Need-slice-aggregate-print-block
 slice-aggregate-print-block c = simp length-take (omega arith)
@@ -29,11 +26,14 @@ print-block-requires c κs = search needs
 same-length : tie.Need-same-length
 same-length c = search needs
 
+same-length-2 : tie.Need-same-length-2
+same-length-2 c = search needs
+
 returns : tie.Need-returns
 returns c = search needs
 
-array-share-prefix-space-2 : tie.Need-array-share-prefix-space-2
-array-share-prefix-space-2 c = search needs
+slice-reshare-prefix-print-rest : tie.Need-slice-reshare-prefix-print-rest
+slice-reshare-prefix-print-rest c = search needs
 
 slice-aggregate-print-rest : tie.Need-slice-aggregate-print-rest
 slice-aggregate-print-rest c = simp length-take (omega arith)
@@ -41,14 +41,20 @@ slice-aggregate-print-rest c = simp length-take (omega arith)
 print-rest-requires : tie.Need-print-rest-requires
 print-rest-requires c κs = search needs
 
-same-length-2 : tie.Need-same-length-2
-same-length-2 c = search needs
+same-length-3 : tie.Need-same-length-3
+same-length-3 c = search needs
+
+same-length-4 : tie.Need-same-length-4
+same-length-4 c = search needs
 
 returns-2 : tie.Need-returns-2
 returns-2 c = search needs
 
-same-length-3 : tie.Need-same-length-3
-same-length-3 c = search needs
+same-length-5 : tie.Need-same-length-5
+same-length-5 c = search needs
+
+same-length-6 : tie.Need-same-length-6
+same-length-6 c = search needs
 
 returns-3 : tie.Need-returns-3
 returns-3 c = search needs
@@ -57,17 +63,19 @@ pub print-some-spec : {M : Type 1} → statement M
 print-some-spec =
     tie.close
     (tie.spec
-    slice-aggregate-fill
     fill-requires
-    array-share-prefix-space
+    slice-reshare-prefix-print-block
     slice-aggregate-print-block
     print-block-requires
     same-length
+    same-length-2
     returns
-    array-share-prefix-space-2
+    slice-reshare-prefix-print-rest
     slice-aggregate-print-rest
     print-rest-requires
-    same-length-2
-    returns-2
     same-length-3
+    same-length-4
+    returns-2
+    same-length-5
+    same-length-6
     returns-3)

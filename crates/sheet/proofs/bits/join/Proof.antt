@@ -10,7 +10,8 @@ use lib.Seq.{getD-set-same, getD-set-other, drop-set-lt, length-take-le, getD-ta
 use Rattle.sheet.specs.Bits.{starts, joined, cut}
 use Rattle.sheet.specs.Fields.{groups, width, nth}
 use Rattle.sheet.specs.Packing.{size, eight, listed, bytesOf, Narrow}
-use Rattle.sheet.proofs.Regroup.{Mid, mid-start, mid-in, mid-set, mid-done, listed-is}
+use Rattle.sheet.specs.Regrouping.{Mid}
+use Rattle.sheet.proofs.Regroup.{mid-start, mid-in, mid-set, mid-done, listed-is}
 use Rattle.sheet.proofs.Widths.{width-le, starts-eight, starts-width, ends-width}
 use Rattle.sheet.proofs.Steps.{first-lt}
 use Rattle.sheet.proofs.Groups.{starts-le}

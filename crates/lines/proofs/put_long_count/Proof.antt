@@ -1,0 +1,98 @@
+-- `lines::put_long_count` meets its contract. The loop's invariant: the digits from place on stand, and what is left of the count is still to be put.
+-- The measure is what is left. Assumes nothing.
+use Prim.Native.Nat.{_+_, _≤_}
+use mathlib.Core.Path.{_≡_, refl}
+use native.Mathlib.Omega.{arith}
+use borrow.Author.Needs.{needs}
+use lib.ListN.{length, length-set}
+use Rattle.lines.specs.Decimals.{digits}
+use Rattle.lines.proofs.Digits.{places-at-most, places-some}
+use Rattle.lines.proofs.Counting.{Standing, none-stands, one-more-stands, all-stands}
+use Rattle.lines.proofs.put_long_count.Statement.{statement}
+use Rattle.lines.proofs.put_long_count.Tie as tie
+
+abbrev Inv-loop : tie.InvT-loop
+Inv-loop count buffer₀ at end place₀ rest₀ buffer place rest =
+    (length buffer ≡ length buffer₀) × (end ≡ at + length (digits count)) × (end ≤ at + 20) × (place ≤ at + 20)
+    × Standing buffer₀ at count buffer place rest
+
+abbrev μ-loop : tie.MeasureT-loop
+μ-loop count buffer₀ at end place₀ rest₀ buffer place rest = rest
+
+places-requires : tie.Need-places-requires Inv-loop μ-loop
+places-requires c κs = search needs
+
+add-end : tie.Need-add-end Inv-loop μ-loop
+add-end c = omega (arith, places-at-most 19 (c .before .before .args .count) (omega arith))
+
+loop-holds : tie.Need-loop-holds Inv-loop μ-loop
+loop-holds c =
+    let a = c .before .before .args in
+    let e : a .at + c .places .result ≡ a .at + length (digits (a .count)) = omega arith in
+    let small : c .places .result ≤ 20 = omega (arith, places-at-most 19 (a .count) (omega arith)) in
+    (refl, e, omega arith, omega arith, none-stands (a .buffer .now) (a .at) (a .count) _ e)
+
+sub-place : tie.Need-sub-place Inv-loop μ-loop
+sub-place c = omega (arith, places-some (c .before .loop .rest))
+
+add-buffer : tie.Need-add-buffer Inv-loop μ-loop
+add-buffer c = omega arith
+
+cast-buffer : tie.Need-cast-buffer Inv-loop μ-loop
+cast-buffer c = omega arith
+
+slice-write-buffer : tie.Need-slice-write-buffer Inv-loop μ-loop
+slice-write-buffer c = omega arith
+
+loop-less : tie.Need-loop-less Inv-loop μ-loop
+loop-less c = omega arith
+
+loop-again : tie.Need-loop-again Inv-loop μ-loop
+loop-again c =
+    let a = c .before .before .before .before .args in
+    let l = c .before .loop in (
+      simp length-set (l .inv .0),
+      l .inv .1,
+      l .inv .2,
+      omega arith,
+      one-more-stands (a .buffer .now) (a .at) (a .count) (l .buffer) (l .place) (l .rest) (l .inv .4) (omega arith) (omega arith),
+    )
+
+add-buffer-2 : tie.Need-add-buffer-2 Inv-loop μ-loop
+add-buffer-2 c = omega arith
+
+cast-buffer-2 : tie.Need-cast-buffer-2 Inv-loop μ-loop
+cast-buffer-2 c = omega arith
+
+slice-write-buffer-2 : tie.Need-slice-write-buffer-2 Inv-loop μ-loop
+slice-write-buffer-2 c = omega arith
+
+same-length : tie.Need-same-length Inv-loop μ-loop
+same-length c = simp length-set (omega arith)
+
+returns : tie.Need-returns Inv-loop μ-loop
+returns c =
+    let a = c .before .before .before .before .args in
+    let l = c .before .loop in
+    (all-stands (a .buffer .now) (a .at) (a .count) (l .buffer) (l .place) (l .rest) (l .inv .4) _ (l .inv .1) (omega arith) (omega arith), l .inv .2)
+
+pub put-long-count-spec : {M : Type 1} → statement M
+put-long-count-spec =
+    tie.close
+    (tie.spec
+    Inv-loop
+    μ-loop
+    places-requires
+    add-end
+    loop-holds
+    sub-place
+    add-buffer
+    cast-buffer
+    slice-write-buffer
+    loop-less
+    loop-again
+    add-buffer-2
+    cast-buffer-2
+    slice-write-buffer-2
+    same-length
+    returns)

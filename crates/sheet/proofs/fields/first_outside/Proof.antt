@@ -1,0 +1,72 @@
+-- `sheet::fields::first_outside` meets its contract: the search from where the loop stands answers for the whole run.
+-- Assumes nothing.
+use mathlib.Core.Path.{_≡_, refl, sym, _∙_}
+use Prim.Native.Nat.{_≤_, _-_}
+use native.Mathlib.Omega.{arith}
+use borrow.Author.Needs.{needs}
+use Rattle.sheet.specs.Fields.{outsideAt, firstOutside}
+use Rattle.laws.specs.First.{firstFrom}
+use Rattle.sheet.proofs.Runs.{first-end, first-here, first-on}
+use Rattle.sheet.proofs.fields.first_outside.Statement.{statement}
+use Rattle.sheet.proofs.fields.first_outside.Tie as tie
+use Rattle.sheet.proofs.fields.first_outside.Reads as reads
+use Rattle.sheet.proofs.fields.first_outside.Lts as lts
+use Rattle.sheet.proofs.fields.outside.Reads as outside-reads
+
+abbrev Inv-loop : tie.InvT-loop
+Inv-loop figures from to i₀ i = firstOutside figures i to ≡ firstOutside figures from to
+
+abbrev μ-loop : tie.MeasureT-loop
+μ-loop figures from to i₀ i = to - i
+
+loop-holds : tie.Need-loop-holds Inv-loop μ-loop
+loop-holds c = refl
+
+outside-requires : tie.Need-outside-requires Inv-loop μ-loop
+outside-requires c κs = search needs
+
+cast-result : tie.Need-cast-result Inv-loop μ-loop
+cast-result c = search needs
+
+add-result : tie.Need-add-result Inv-loop μ-loop
+add-result c = search needs
+
+returns : tie.Need-returns Inv-loop μ-loop
+unfolding firstOutside
+returns c =
+    let l = c .before .before .before in
+    first-here (outsideAt _) (l .loop .i) (l .before .args .to) (omega arith) (sym (c .before .outside .ensures) ∙ c .if1 .taken)
+    ∙ l .loop .inv
+
+add-i : tie.Need-add-i Inv-loop μ-loop
+add-i c = search needs
+
+loop-less : tie.Need-loop-less Inv-loop μ-loop
+loop-less c = search needs
+
+loop-again : tie.Need-loop-again Inv-loop μ-loop
+unfolding firstOutside
+loop-again c =
+    let l = c .before .before .before in
+    sym (first-on (outsideAt _) (l .loop .i) (l .before .args .to) (omega arith) (sym (c .before .outside .ensures) ∙ c .if1 .left))
+    ∙ l .loop .inv
+
+returns-2 : tie.Need-returns-2 Inv-loop μ-loop
+unfolding firstOutside
+returns-2 c = first-end (outsideAt _) (c .before .loop .i) (c .before .before .args .to) (omega arith) ∙ c .before .loop .inv
+
+pub first-outside-spec : {M : Type 1} → statement M
+first-outside-spec =
+    tie.close
+    (tie.spec
+    Inv-loop
+    μ-loop
+    loop-holds
+    outside-requires
+    cast-result
+    add-result
+    returns
+    add-i
+    loop-less
+    loop-again
+    returns-2)

@@ -1,0 +1,34 @@
+-- `sheet::fields::outside` meets its contract: each way out is a law of `outsideAt`.
+-- Assumes nothing.
+use borrow.Author.Needs.{needs}
+use Rattle.sheet.specs.Fields.{least, greatest}
+use Rattle.sheet.proofs.Rules.{outside-small, outside-great}
+use Rattle.sheet.proofs.fields.outside.Statement.{statement}
+use Rattle.sheet.proofs.fields.outside.Tie as tie
+use Rattle.sheet.proofs.fields.outside.Reads as reads
+use Rattle.sheet.proofs.fields.outside.Lts as lts
+use Rattle.sheet.proofs.fields.field_at.Reads as field-at-reads
+
+field-at-requires : tie.Need-field-at-requires
+field-at-requires c κs = search needs
+
+mul-figure : tie.Need-mul-figure
+mul-figure c = search needs
+
+array-read-figure : tie.Need-array-read-figure
+array-read-figure c = search needs
+
+returns : tie.Need-returns
+unfolding least
+returns c =
+    let field = c .before .before .field-at in
+    rw (field .ensures) (outside-small _ _ (rw (field .ensures) at (c .if1 .taken)))
+
+returns-2 : tie.Need-returns-2
+unfolding least greatest
+returns-2 c =
+    let field = c .before .before .before .field-at in
+    rw (field .ensures) (outside-great _ _ (rw (field .ensures) at (c .before .if1 .left)))
+
+pub outside-spec : {M : Type 1} → statement M
+outside-spec = tie.close (tie.spec field-at-requires mul-figure array-read-figure returns returns-2)
