@@ -1,9 +1,14 @@
 -- The route so far: its sheets, how many are answered, and its class (section 10).
-use Rattle.class.specs.Classes.{withShip}
+use mathlib.Core.List.{[]}
+use Rattle.class.specs.Classes.{withShip, routeClass}
 use Rattle.record.specs.Counting.{oneMore}
 use Rattle.design.specs.declared.Answer.{Answer}
 use Rattle.design.specs.declared.Answer.the-variants.{Answered, Refused}
 use Rattle.channel.specs.declared.sheets.Route.{Route}
+
+-- the route before its first sheet
+abbrev pub noSheets : Route
+noSheets = record { sheets = 0; answered = 0; class = routeClass [] }
 
 -- the route with one more sheet
 abbrev pub withSheet : Route → Answer → Route

@@ -1,6 +1,6 @@
 // Sheets from standard input, each with its line, and the route's line at the end.
 ghost use mathlib.Core.Path.{_≡_};
-ghost use Rattle.channel.specs.Route.{withSheet};
+ghost use Rattle.channel.specs.Route.{noSheets, withSheet};
 ghost use Rattle.channel.specs.Printing.{printed, placeFor, sheetPrinted, blockPrinted, restPrinted};
 use crate::input;
 use design::Answer;
@@ -25,6 +25,17 @@ struct State {
     at: usize,
     open: bool,
     route: Route,
+}
+
+// The route before its first sheet.
+fn no_sheets() -> Route
+    ensures { λ r. ⌜ r ≡ noSheets ⌝ }
+{
+    Route {
+        sheets: 0,
+        answered: 0,
+        class: class::none_answered(),
+    }
 }
 
 // The route with one more sheet.
@@ -171,14 +182,11 @@ fn print_end(buffer: &mut [u8], state: State, failed: bool) {
 
 // Every sheet of standard input, from a place of the buffer on.
 pub fn print_all(level: LevelRead, buffer: &mut [u8], at: usize) {
+    let route = no_sheets();
     let mut state = State {
         at,
         open: true,
-        route: Route {
-            sheets: 0,
-            answered: 0,
-            class: class::NONE_ANSWERED,
-        },
+        route,
     };
     let mut space = [0u8; BLOCK];
     let mut failed = false;

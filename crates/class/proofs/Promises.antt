@@ -55,6 +55,9 @@ width-unique lanes width = one-answer
 pub depth-unique : (s : BelowLevel) (r t : ℕ) → r ≡ depthClass s → t ≡ depthClass s → r ≡ t
 depth-unique s = one-answer
 
+pub none-answered-unique : (r t : ℕ) → r ≡ routeClass [] → t ≡ routeClass [] → r ≡ t
+none-answered-unique = one-answer
+
 pub route-unique : (route ship r t : ℕ) → r ≡ withShip route ship → t ≡ withShip route ship → r ≡ t
 route-unique route ship = one-answer
 

@@ -1,11 +1,9 @@
 // The classes of a ship, a width and a depth, 0 special to 4, and the route's (definition, section 7).
 ghost use mathlib.Core.Path.{_≡_};
-ghost use Rattle.class.specs.Classes.{classBy, shipClass, widthClass, depthClass, withShip};
+ghost use mathlib.Core.List.{[]};
+ghost use Rattle.class.specs.Classes.{classBy, shipClass, widthClass, depthClass, withShip, routeClass};
 use datum::BelowLevel;
 use lanes::Lanes;
-
-// The class of a route none of whose stretches is answered: where its fold begins.
-pub const NONE_ANSWERED: u8 = 5;
 
 // The class of a figure, by the figures from which classes 0 to 3 count.
 fn class_by(special: u32, first: u32, second: u32, third: u32, figure: u32) -> u8
@@ -48,6 +46,13 @@ pub fn depth_class(sailing: BelowLevel) -> u8
     ensures { λ r. ⌜ r ≡ depthClass sailing ⌝ }
 {
     class_by(1400, 1100, 900, 800, sailing.0 as u32)
+}
+
+// The class of a route none of whose stretches is answered.
+pub fn none_answered() -> u8
+    ensures { λ r. ⌜ r ≡ routeClass [] ⌝ }
+{
+    5
 }
 
 // The class of a route with one more answered stretch, of the given ship class.

@@ -17,6 +17,9 @@ Inv-loop level buffer₀ at state₀ space₀ failed₀ turns₀ buffer state sp
 abbrev μ-loop : tie.MeasureT-loop
 μ-loop level buffer₀ at state₀ space₀ failed₀ turns₀ buffer state space failed turns = turns
 
+no-sheets-requires : tie.Need-no-sheets-requires Inv-loop μ-loop
+no-sheets-requires c κs = search needs
+
 loop-holds : tie.Need-loop-holds Inv-loop μ-loop
 loop-holds c = search needs
 
@@ -50,6 +53,7 @@ print-all-spec =
     (tie.spec
     Inv-loop
     μ-loop
+    no-sheets-requires
     loop-holds
     slice-aggregate-print-some
     print-some-requires
