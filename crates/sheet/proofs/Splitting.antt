@@ -3,12 +3,11 @@
 use mathlib.Core.Path.{_≡_, refl, sym, _∙_}
 use mathlib.Core.Bool.{Bool, true, false}
 use mathlib.Core.List.{List}
-use Prim.Native.Nat.{ℕ, suc, _+_, _-_, _*_, _/_, _%_, _^_, _<_, _≤_}
+use Prim.Native.Nat.{ℕ, _+_, _-_, _*_, _/_, _%_, _^_, _<_, _≤_}
 use native.Mathlib.Omega.{arith}
-use borrow.Author.Tests.{lt-ltb, le-ltb, ltb-true, ltb-false}
+use borrow.Author.Tests.{ltb-true, ltb-false}
 use lib.Dec.{ltb}
 use lib.ListN.{length, set, length-set}
-use Rattle.sheet.specs.Bits.{starts, joined}
 use Rattle.sheet.specs.Fields.{groups, width, nth}
 use Rattle.sheet.specs.Packing.{eight, groupsOf, numberOf}
 use Rattle.sheet.specs.Regrouping.{Mid, wordAt, filledOf, SplitTo}

@@ -92,6 +92,10 @@ outsideAt figures k = (nth figures k <ᵇ least k) || (greatest k <ᵇ nth figur
 unfoldable pub firstOutside : List ℕ → ℕ → ℕ → ℕ
 firstOutside figures from to = firstFrom (outsideAt figures) from (to - from)
 
+-- the number of the first bad field past the first from, 0 where there is none
+unfoldable pub firstBadFrom : List ℕ → ℕ → ℕ
+firstBadFrom figures from = firstFrom (badAt figures) from (count - from)
+
 -- the number of the first bad field, 0 where there is none
 unfoldable pub firstBad : List ℕ → ℕ
 firstBad figures = firstOf (badAt figures) count

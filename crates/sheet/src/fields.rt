@@ -1,7 +1,7 @@
 // The table of fields and their rules (definition, sections 1.1 and 1.2).
 ghost use mathlib.Core.Path.{_≡_};
 ghost use Prim.Native.Nat.{_<_, _≤_};
-ghost use Rattle.sheet.specs.Fields.{count, groups, fieldAt, width, outsideAt, firstOutside, pairBad, badAt, firstBad};
+ghost use Rattle.sheet.specs.Fields.{count, groups, fieldAt, width, outsideAt, firstOutside, pairBad, badAt, firstBadFrom, firstBad};
 
 // A field: its bits, its least and its greatest value.
 pub struct Field(pub u32, pub u32, pub u32);
@@ -111,6 +111,20 @@ fn bad_at(figures: [u32; GROUPS], i: usize) -> bool
     outside(figures, i) || pair_bad(figures, i)
 }
 
+// The number of the first bad field past the first `from`, 0 where there is none.
+fn first_bad_from(figures: [u32; GROUPS], from: usize) -> u32
+    ensures { λ r. ⌜ r ≡ firstBadFrom figures from ⌝ }
+{
+    let mut at = from;
+    while at < COUNT {
+        if bad_at(figures, at) {
+            return at as u32 + 1;
+        }
+        at += 1;
+    }
+    0
+}
+
 // The number of the first bad field, 0 where there is none. Up to field 25 none is tested against another. Short runs of
 // fields: the compiler lays each out flat, with the table's numbers in their places.
 pub fn first_bad(figures: [u32; GROUPS]) -> u32
@@ -128,14 +142,5 @@ pub fn first_bad(figures: [u32; GROUPS]) -> u32
     if of_last != 0 {
         return of_last;
     }
-    if bad_at(figures, 25) {
-        return 26;
-    }
-    if bad_at(figures, 26) {
-        return 27;
-    }
-    if bad_at(figures, 27) {
-        return 28;
-    }
-    0
+    first_bad_from(figures, 25)
 }

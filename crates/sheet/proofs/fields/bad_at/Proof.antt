@@ -5,10 +5,6 @@ use borrow.Author.Needs.{needs}
 use Rattle.sheet.proofs.Rules.{bad-outside, bad-by-pair}
 use Rattle.sheet.proofs.fields.bad_at.Statement.{statement}
 use Rattle.sheet.proofs.fields.bad_at.Tie as tie
-use Rattle.sheet.proofs.fields.bad_at.Reads as reads
-use Rattle.sheet.proofs.fields.bad_at.Lts as lts
-use Rattle.sheet.proofs.fields.outside.Reads as outside-reads
-use Rattle.sheet.proofs.fields.pair_bad.Reads as pair-bad-reads
 
 outside-requires : tie.Need-outside-requires
 outside-requires c κs = search needs

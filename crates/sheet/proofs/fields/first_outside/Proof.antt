@@ -1,17 +1,13 @@
 -- `sheet::fields::first_outside` meets its contract: the search from where the loop stands answers for the whole run.
 -- Assumes nothing.
 use mathlib.Core.Path.{_≡_, refl, sym, _∙_}
-use Prim.Native.Nat.{_≤_, _-_}
+use Prim.Native.Nat.{_-_}
 use native.Mathlib.Omega.{arith}
 use borrow.Author.Needs.{needs}
 use Rattle.sheet.specs.Fields.{outsideAt, firstOutside}
-use Rattle.laws.specs.First.{firstFrom}
 use Rattle.sheet.proofs.Runs.{first-end, first-here, first-on}
 use Rattle.sheet.proofs.fields.first_outside.Statement.{statement}
 use Rattle.sheet.proofs.fields.first_outside.Tie as tie
-use Rattle.sheet.proofs.fields.first_outside.Reads as reads
-use Rattle.sheet.proofs.fields.first_outside.Lts as lts
-use Rattle.sheet.proofs.fields.outside.Reads as outside-reads
 
 abbrev Inv-loop : tie.InvT-loop
 Inv-loop figures from to i₀ i = firstOutside figures i to ≡ firstOutside figures from to

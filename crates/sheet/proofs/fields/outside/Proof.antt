@@ -5,9 +5,6 @@ use Rattle.sheet.specs.Fields.{least, greatest}
 use Rattle.sheet.proofs.Rules.{outside-small, outside-great}
 use Rattle.sheet.proofs.fields.outside.Statement.{statement}
 use Rattle.sheet.proofs.fields.outside.Tie as tie
-use Rattle.sheet.proofs.fields.outside.Reads as reads
-use Rattle.sheet.proofs.fields.outside.Lts as lts
-use Rattle.sheet.proofs.fields.field_at.Reads as field-at-reads
 
 field-at-requires : tie.Need-field-at-requires
 field-at-requires c κs = search needs
