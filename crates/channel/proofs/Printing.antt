@@ -1,9 +1,9 @@
 -- One sheet, a block of whole sheets and the bytes behind them, printed step by step.
 -- Assumes nothing.
-use mathlib.Core.Path.{_≡_, refl, sym, ap, _∙_}
+use mathlib.Core.Path.{_≡_, sym, ap, _∙_}
 use mathlib.Core.Bool.{true, false}
 use mathlib.Core.List.{List}
-use Prim.Native.Nat.{ℕ, zero, suc, _+_, _-_, _/_, _%_, _≤_, _<_}
+use Prim.Native.Nat.{ℕ, suc, _+_, _-_, _/_, _%_, _≤_, _<_}
 use native.Mathlib.Omega.{arith}
 use borrow.Author.Tests.{eq-eqb, ne-eqb}
 use lib.IntN.{ℤ}
@@ -16,9 +16,8 @@ use Rattle.design.specs.Numbers.{numbersOf}
 use Rattle.design.specs.declared.Answer.{Answer}
 use Rattle.lines.specs.Lines.{room, sheetLine, placeAfter, bufferAfter}
 use Rattle.channel.specs.Route.{withSheet}
-use Rattle.channel.specs.Printing.{Printed, printed, placeFor, sheetPrinted, sheetsPrinted, blockPrinted, restPrinted}
+use Rattle.channel.specs.Printing.{Printed, placeFor, sheetPrinted, sheetsPrinted, blockPrinted, restPrinted}
 use Rattle.channel.specs.declared.sheets.Route.{Route}
-use Rattle.channel.specs.declared.sheets.State.{State}
 
 -- the place for a line
 module _ (buffer : List ℕ) (at : ℕ) where

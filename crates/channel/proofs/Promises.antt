@@ -7,10 +7,9 @@ use lib.ListN.{length, take, drop}
 use Rattle.gauge.specs.declared.LevelRead.{LevelRead}
 use Rattle.design.specs.Design.{designAt}
 use Rattle.design.specs.Numbers.{numbersOf}
-use Rattle.lines.specs.Lines.{room, sheetLine, bufferAfter}
+use Rattle.lines.specs.Lines.{sheetLine, bufferAfter}
 use Rattle.channel.specs.Route.{withSheet}
 use Rattle.channel.specs.Printing.{Printed, placeFor, sheetPrinted, blockPrinted}
-use Rattle.channel.specs.declared.sheets.Route.{Route}
 use Rattle.channel.proofs.Printing.{block-goes-on, block-ends}
 use Rattle.channel.proofs.Joined.{blocks-joined}
 

@@ -2,16 +2,14 @@
 -- Assumes nothing.
 use mathlib.Core.Path.{_≡_, refl, ap, _∙_}
 use mathlib.Core.Bool.{Bool, true, false, cond}
-use Prim.Native.Nat.{ℕ, zero, suc, _+_, _-_, _≤_, _<_, min}
+use Prim.Native.Nat.{ℕ, suc, _+_, _-_, _≤_, _<_, min}
 use native.Mathlib.Nat.{min-eq-right}
 use native.Mathlib.Omega.{arith}
 use borrow.Author.Tests.{ltb-true, ltb-false}
 use lib.Dec.{T, ltb}
-use lib.IntN.{ℤ, pos, negsuc, natAbs, _+ℤ_, _-ℤ_}
+use lib.IntN.{ℤ, pos, negsuc, natAbs, _+ℤ_}
 use lib.Signed.{ltZ, nonNeg}
 use Rattle.datum.specs.Datum.{below, orZero, deepest, naturalDepth}
-use Rattle.datum.specs.declared.BelowChart.{BelowChart}
-use Rattle.datum.specs.declared.Level.{Level}
 
 pub held-zero : (z : ℤ) → ltZ z (pos 0) ≡ true → 0 ≡ min deepest (orZero z)
 held-zero (pos n) e = let h : n < 0 = ltb-true n 0 e in omega arith

@@ -33,7 +33,6 @@ use Rattle.width.specs.declared.WidthFound.{WidthFound}
 use Rattle.width.specs.declared.WidthFound.the-variants.{Found as WidthOf, NoEntry}
 use Rattle.class.specs.Classes.{shipClass, widthClass, depthClass}
 use Rattle.design.specs.declared.Figures.{Figures}
-use Rattle.design.specs.declared.Reason.{Reason}
 use Rattle.design.specs.declared.Reason.the-variants.{WrongLength, SpareBitSet, BadField, WrongTable, TooFewReadings, RangeTooWide, BendTooTight, NoWidthEntry, NoCut}
 use Rattle.design.specs.declared.Answer.{Answer}
 use Rattle.design.specs.declared.Answer.the-variants.{Answered, Refused}

@@ -9,7 +9,6 @@ use borrow.Author.Tests.{lt-ltb, le-ltb, ltb-true, ne-eqb}
 use lib.Dec.{ltb}
 use Rattle.laws.specs.Choice.{if_then_else_}
 use Rattle.lanes.specs.Lanes.{byTraffic, lanesOf}
-use Rattle.lanes.specs.declared.Lanes.{Lanes}
 use Rattle.lanes.specs.declared.Lanes.the-variants.{One, Two}
 
 module _ (channel ships knots : ℕ) where

@@ -1,5 +1,5 @@
 -- The first place where a test holds.
-use Prim.Native.Nat.{ℕ, zero, suc, _+_}
+use Prim.Native.Nat.{ℕ, zero, suc}
 use mathlib.Core.Bool.{Bool}
 use Rattle.laws.specs.Choice.{if_then_else_}
 

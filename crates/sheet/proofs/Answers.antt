@@ -9,9 +9,7 @@ use Rattle.sheet.specs.Fields.{groups, count, nth, firstBad}
 use Rattle.sheet.specs.Packing.{size, groupsOf, bytesOf}
 use Rattle.sheet.specs.Sheets.{sheetOf, figuresOf, readGroups, readOf, writtenOf, placeOf}
 use Rattle.sheet.specs.declared.Sheet.{Sheet}
-use Rattle.sheet.specs.declared.SheetRead.{SheetRead}
 use Rattle.sheet.specs.declared.SheetRead.the-variants.{Good, WrongLength, SpareBitSet, BadField}
-use Rattle.sheet.specs.declared.SheetWritten.{SheetWritten}
 use Rattle.sheet.specs.declared.SheetWritten.the-variants.{Done, PlaceTooSmall, BadField as BadFieldToWrite}
 
 module _ (b : List ℕ) where

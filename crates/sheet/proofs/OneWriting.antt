@@ -1,27 +1,24 @@
 -- A written sheet is read back, and each sheet has one writing.
 -- Assumes nothing.
 use mathlib.Core.Path.{_≡_, refl, ap, sym, _∙_}
-use mathlib.Core.Bool.{Bool, true, false, _&&_, not, false≢true}
-use mathlib.Core.List.{List, _++_}
-use Prim.Native.Nat.{ℕ, _<_, _≤_}
+use mathlib.Core.Bool.{Bool, true, false, _&&_, false≢true}
+use mathlib.Core.List.{List}
+use Prim.Native.Nat.{ℕ, _≤_}
 use native.Mathlib.Omega.{arith}
-use borrow.Author.Tests.{eq-eqb, eqb-true, le-ltb, ltb-false, not-false}
-use lib.Dec.{eqb, ltb}
-use lib.ListN.{length, take, drop, length-append, length-drop}
+use borrow.Author.Tests.{eq-eqb, eqb-true, le-ltb, not-false}
+use lib.Dec.{eqb}
+use lib.ListN.{length, take, drop}
 use lib.Seq.{take-at}
 use Rattle.laws.specs.Choice.{if_then_else_}
-use Rattle.datum.specs.Datum.{belowChart}
 use Rattle.sheet.specs.Fields.{groups, count, fields, fieldAt, nth, greatest, pairBad, firstBad}
 use Rattle.sheet.specs.Packing.{size, listed, groupsOf, bytesOf, Bytes}
-use Rattle.sheet.specs.Sheets.{sheetWith, sheetOf, bedFigure, figuresOf, readGroups, readOf, placeOf, Valid}
+use Rattle.sheet.specs.Sheets.{sheetOf, bedFigure, figuresOf, readGroups, readOf, placeOf, Valid}
 use Rattle.sheet.specs.declared.Sheet.{Sheet}
-use Rattle.sheet.specs.declared.SheetRead.{SheetRead}
 use Rattle.sheet.specs.declared.SheetRead.the-variants.{Good, WrongLength, SpareBitSet, BadField}
 use Rattle.sheet.proofs.Regroup.{listed-is, listed-length}
 use Rattle.sheet.proofs.RoundTrip.{groups-of-bytes, bytes-of-groups}
 use Rattle.sheet.proofs.Beds.{bed-back}
 use Rattle.sheet.proofs.Levels.{level-back, figures-back}
-use Rattle.sheet.proofs.Rules.{Fine}
 use Rattle.sheet.proofs.Valid.{fine, fine-narrow, groups-length}
 use Rattle.sheet.proofs.Answers.{read-good, figures-spare, figures-length}
 

@@ -1,8 +1,8 @@
 -- What a sheet that is read keeps to: it is valid, and its figures are within the ranges of their fields.
 -- Assumes nothing.
-use mathlib.Core.Path.{_≡_, refl, ap, sym, _∙_}
+use mathlib.Core.Path.{_≡_, ap, sym, _∙_}
 use mathlib.Core.List.{List}
-use Prim.Native.Nat.{ℕ, _≤_, _<_}
+use Prim.Native.Nat.{ℕ, _≤_}
 use native.Mathlib.Omega.{arith}
 use Rattle.laws.proofs.First.{first-within}
 use Rattle.sheet.specs.Fields.{fields, fieldAt, least, greatest, badAt, firstBad, count}
@@ -13,7 +13,6 @@ use Rattle.sheet.specs.declared.SheetRead.{SheetRead}
 use Rattle.sheet.specs.declared.SheetRead.the-variants.{Good, BadField}
 use Rattle.sheet.proofs.OneWriting.{accepted, figures-of-sheet}
 use Rattle.sheet.proofs.Reading.{Why, wrong-length, spare-bit, bad-field, good, why}
-use Rattle.sheet.proofs.Rules.{Fine}
 use Rattle.sheet.proofs.Valid.{fine, groups-length}
 
 pub read-valid : (b : List ℕ) (s : Sheet) → readOf b ≡ Good s → Valid s

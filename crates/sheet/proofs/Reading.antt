@@ -4,24 +4,21 @@ use mathlib.Core.Path.{_≡_, refl, sym, _∙_}
 use mathlib.Core.Bool.{Bool, true, false}
 use mathlib.Core.List.{List}
 use mathlib.Core.Logic.{_↔_}
-use Prim.Native.Nat.{ℕ, zero, suc, _+_, _<_, _≤_}
-use native.Mathlib.Numerals.{add-one}
+use Prim.Native.Nat.{ℕ}
 use native.Mathlib.Omega.{arith}
-use borrow.Author.Tests.{eq-eqb, ne-eqb, eqb-true, eqb-false, ltb-true, ltb-false, lt-ltb, le-ltb}
-use lib.Dec.{eqb, ltb}
+use borrow.Author.Tests.{eqb-true, eqb-false}
+use lib.Dec.{eqb}
 use lib.ListN.{length}
 use Rattle.laws.specs.Choice.{if_then_else_}
 use Rattle.laws.specs.Extremes.{Least}
 use Rattle.sheet.specs.Fields.{count, nth, firstBad, Bad}
 use Rattle.sheet.specs.Packing.{size, groupsOf, Bytes, SpareSet}
-use Rattle.sheet.specs.Sheets.{sheetOf, figuresOf, readGroups, readOf, writtenOf, Valid}
+use Rattle.sheet.specs.Sheets.{sheetOf, readGroups, readOf}
 use Rattle.sheet.specs.declared.Sheet.{Sheet}
 use Rattle.sheet.specs.declared.SheetRead.{SheetRead}
 use Rattle.sheet.specs.declared.SheetRead.the-variants.{Good, WrongLength, SpareBitSet, BadField}
-use Rattle.sheet.specs.declared.SheetWritten.{SheetWritten}
-use Rattle.sheet.specs.declared.SheetWritten.the-variants.{Done, PlaceTooSmall, BadField as BadFieldToWrite}
 use Rattle.sheet.proofs.Answers.{read-length, read-spare, read-bad, read-good}
-use Rattle.sheet.proofs.BadFields.{bad-tested, first-least, none-bad}
+use Rattle.sheet.proofs.BadFields.{first-least, none-bad}
 use Rattle.sheet.proofs.Spare.{spare-set}
 
 -- why a string of bytes is read as it is

@@ -2,18 +2,18 @@
 -- Assumes nothing.
 use mathlib.Core.Path.{_≡_, refl, ap, sym, _∙_}
 use mathlib.Core.Bool.{Bool, true, false}
-use mathlib.Core.List.{List, [], _∷_, _++_}
+use mathlib.Core.List.{List, _∷_, _++_}
 use mathlib.Core.Logic.{_↔_}
-use Prim.Native.Nat.{ℕ, zero, suc, _+_, _*_, _/_, _%_, _^_, _<_, _≤_}
-use native.Mathlib.Nat.{div-lt-iff-lt-mul, zero-div, one-mul, mod-eq-of-lt}
+use Prim.Native.Nat.{ℕ, zero, suc, _+_, _/_, _%_, _^_, _<_}
+use native.Mathlib.Nat.{div-lt-iff-lt-mul, zero-div, one-mul}
 use native.Mathlib.Omega.{arith}
 use borrow.Author.Tests.{eqb-true, eqb-false}
 use lib.Dec.{eqb}
-use lib.ListN.{length, getD, length-append}
+use lib.ListN.{length, length-append}
 use lib.Pow.{pow-pos, shr-lt}
 use lib.Seq.{getD-append-add}
 use Rattle.sheet.specs.Bits.{bitsOf, strung, starts}
-use Rattle.sheet.specs.Fields.{count, groups, width, nth}
+use Rattle.sheet.specs.Fields.{count, width, nth}
 use Rattle.sheet.specs.Packing.{bitsOfBytes, groupsOf, Narrow, Bytes, SpareSet}
 use Rattle.sheet.proofs.Packed.{packed}
 use Rattle.sheet.proofs.Valid.{groups-narrow}

@@ -8,7 +8,7 @@ use lib.Dec.{leb, leb→le}
 use lib.ListN.{getD}
 use lib.Pow.{pow-mono}
 use Rattle.laws.proofs.Every.{every-at}
-use Rattle.sheet.specs.Fields.{count, groups, fields, fieldAt, width, nth}
+use Rattle.sheet.specs.Fields.{count, fields, fieldAt, width, nth}
 use Rattle.sheet.specs.Packing.{Narrow}
 
 -- the bits of the types, in the order of the fields

@@ -2,7 +2,7 @@
 -- Assumes nothing.
 use mathlib.Core.Path.{_≡_}
 use mathlib.Core.List.{List}
-use Prim.Native.Nat.{ℕ, _<_, _≤_, _^_}
+use Prim.Native.Nat.{ℕ, _<_, _^_}
 use native.Mathlib.Nat.{lt-of-le-of-lt, zero-add}
 use native.Mathlib.Omega.{arith}
 use borrow.Author.Count.{below-more}
@@ -11,7 +11,7 @@ use lib.Pow.{pow-pos}
 use Rattle.laws.proofs.First.{is-none}
 use Rattle.sheet.specs.Bits.{cut}
 use Rattle.sheet.specs.Fields.{count, groups, width, nth, badAt, firstBad}
-use Rattle.sheet.specs.Packing.{listed, numberOf, groupsOf, Narrow}
+use Rattle.sheet.specs.Packing.{numberOf, groupsOf, Narrow}
 use Rattle.sheet.proofs.Groups.{cut-lt}
 use Rattle.sheet.proofs.Regroup.{listed-at, listed-length}
 use Rattle.sheet.proofs.Rules.{Fine, not-bad}

@@ -1,6 +1,6 @@
 -- The table of fields, and when a field is bad (sections 1.1 and 1.2).
 use mathlib.Core.Path.{_≡_}
-use mathlib.Core.Bool.{Bool, true, false, _||_, _&&_, not, Bool·beq}
+use mathlib.Core.Bool.{Bool, false, _||_, _&&_, not, Bool·beq}
 use mathlib.Core.List.{List, [], _∷_}
 use Prim.Native.Nat.{ℕ, suc, _-_, _<_}
 use lib.ListN.{getD}

@@ -1,7 +1,7 @@
 -- What the code holds while it takes bytes apart into groups; no promise speaks of it.
 use mathlib.Core.Path.{_≡_}
 use mathlib.Core.List.{List}
-use Prim.Native.Nat.{ℕ, suc, _+_, _*_, _^_, _<_}
+use Prim.Native.Nat.{ℕ, _+_, _*_, _^_, _<_}
 use lib.ListN.{length}
 use Rattle.laws.specs.Choice.{if_then_else_, _<ᵇ_}
 use Rattle.sheet.specs.Bits.{starts, joined}

@@ -2,7 +2,7 @@
 -- Assumes nothing.
 use mathlib.Core.Path.{_≡_, refl}
 use mathlib.Core.Bool.{Bool, true, false}
-use Prim.Native.Nat.{ℕ, _+_, _*_, _^_, _≤_, _<_}
+use Prim.Native.Nat.{ℕ, _*_, _^_, _≤_, _<_}
 use native.Mathlib.Nat.{mul-le-mul, mul-le-mul-right}
 use native.Mathlib.Omega.{arith}
 use Rattle.laws.specs.Choice.{if_then_else_, _≤ᵇ_, _<ᵇ_, _=ᵇ_}
@@ -16,7 +16,6 @@ use Rattle.lanes.specs.declared.Lanes.the-variants.{One, Two}
 use Rattle.width.specs.Bands.{by_in-open_in-sheltered_, for_moderate_slow_, waterOf, speedBandOf, crossEntry, alongItem, waveEntry}
 use Rattle.width.specs.Additions.{laneItem, windItem, aidsItem, bedItem, depthItem, cargoItem, banksItem, passingItem, trafficItem}
 use Rattle.width.specs.Bends.{leastLengths, laneCount, wideningOf, bendOf, LongEnough}
-use Rattle.width.specs.declared.Bend.{Bend}
 use Rattle.width.specs.declared.Bend.the-variants.{Widening, TooTight}
 use Rattle.width.proofs.Banks.{bank-within}
 use Rattle.width.proofs.Curves.{lengths-within, lanes-within, ship-within, widening-within, widening-is}
@@ -30,11 +29,7 @@ use Rattle.width.specs.declared.SpeedBand.{SpeedBand}
 use Rattle.width.specs.declared.SpeedBand.the-variants.{Moderate, Slow}
 use Rattle.width.specs.declared.Entry.{Entry}
 use Rattle.width.specs.declared.Entry.the-variants.{Tenths, Blank}
-use Rattle.width.specs.declared.Items.{Items}
-use Rattle.width.specs.declared.ItemsFound.{ItemsFound}
-use Rattle.width.specs.declared.ItemsFound.the-variants.{Listed, NoEntry as NoItems}
-use Rattle.width.specs.declared.WidthFound.{WidthFound}
-use Rattle.width.specs.declared.WidthFound.the-variants.{Found, NoEntry}
+use Rattle.width.specs.declared.WidthFound.the-variants.{Found}
 
 -- both ways of a choice
 either : (test : Bool) (a b n : ℕ) → a ≤ n → b ≤ n → (if test then a else b) ≤ n

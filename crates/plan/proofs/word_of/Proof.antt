@@ -1,9 +1,9 @@
 -- `plan::word_of` meets its contract: a negative number's bits are all ones less what it lies under -1.
 -- Assumes nothing.
-use mathlib.Core.Path.{_≡_, ap, _∙_}
+use mathlib.Core.Path.{_≡_}
 use lib.IntN.{ℤ}
 use mir.Syntax.{w32}
-use mir.Val.{SFits, toZ, ofZ}
+use mir.Val.{toZ, ofZ}
 use mir.Facts.{toZ-ofZ, fits-natAbs}
 use Rattle.plan.proofs.Signs.{under, Under, negative, not-negative}
 use Rattle.plan.proofs.word_of.Statement.{statement}

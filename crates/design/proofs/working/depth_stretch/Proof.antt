@@ -1,9 +1,5 @@
 -- `design::working::depth_stretch` meets its contract: the natural depth and the interval are those of the definition.
 -- Assumes nothing.
-use mathlib.Core.Path.{ap₂}
-use Prim.Native.Nat.{ℕ}
-use Rattle.datum.specs.declared.BelowLevel.{BelowLevel}
-use Rattle.depth.specs.declared.Stretch.{Stretch}
 use borrow.Author.Needs.{needs}
 use Rattle.design.proofs.working.depth_stretch.Statement.{statement}
 use Rattle.design.proofs.working.depth_stretch.Tie as tie

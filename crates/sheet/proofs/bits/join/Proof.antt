@@ -1,18 +1,18 @@
 -- `sheet::bits::join` meets its contract: the same steps as `split`, with the two kinds of groups exchanged.
 -- Assumes nothing.
 use mathlib.Core.Path.{_≡_, refl, sym, _∙_}
-use mathlib.Core.List.{List, _++_}
-use Prim.Native.Nat.{ℕ, _≤_, _<_, _-_, _+_, _*_, _/_, _%_, _^_}
+use mathlib.Core.List.{List}
+use Prim.Native.Nat.{ℕ, _≤_, _<_, _-_, _+_}
 use native.Mathlib.Omega.{arith}
 use borrow.Author.Needs.{needs}
-use lib.ListN.{length, getD, set, take, drop, length-set, take-append-drop}
-use lib.Seq.{getD-set-same, getD-set-other, drop-set-lt, length-take-le, getD-take}
-use Rattle.sheet.specs.Bits.{starts, joined, cut}
+use lib.ListN.{length, take, drop, length-set, take-append-drop}
+use lib.Seq.{drop-set-lt, length-take-le, getD-take}
+use Rattle.sheet.specs.Bits.{joined, cut}
 use Rattle.sheet.specs.Fields.{groups, width, nth}
-use Rattle.sheet.specs.Packing.{size, eight, listed, bytesOf, Narrow}
+use Rattle.sheet.specs.Packing.{eight, listed, bytesOf, Narrow}
 use Rattle.sheet.specs.Regrouping.{Mid}
 use Rattle.sheet.proofs.Regroup.{mid-start, mid-in, mid-set, mid-done, listed-is}
-use Rattle.sheet.proofs.Widths.{width-le, starts-eight, starts-width, ends-width}
+use Rattle.sheet.proofs.Widths.{width-le, starts-eight, starts-width}
 use Rattle.sheet.proofs.Steps.{first-lt}
 use Rattle.sheet.proofs.Groups.{starts-le}
 use Rattle.sheet.proofs.bits.join.Statement.{statement}

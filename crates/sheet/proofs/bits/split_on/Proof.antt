@@ -1,6 +1,6 @@
 -- `sheet::bits::split_on` meets its contract: between two steps the number of the bytes read is that of the groups given out, followed by the held bits.
 -- Assumes nothing.
-use mathlib.Core.Path.{_≡_, refl, sym, _∙_}
+use mathlib.Core.Path.{_≡_}
 use Prim.Native.Nat.{_<_, _≤_, _-_}
 use native.Mathlib.Omega.{arith}
 use borrow.Author.Needs.{needs}
