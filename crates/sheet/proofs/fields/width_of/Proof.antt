@@ -3,23 +3,21 @@
 use mathlib.Core.Path.{ap}
 use borrow.Author.Needs.{needs}
 use borrow.Author.Tests.{lt-ltb, le-ltb}
-use Rattle.sheet.specs.Fields.{width}
+use Rattle.sheet.specs.Fields.{count, width}
 use Rattle.sheet.specs.declared.fields.Field.{Field}
 use Rattle.sheet.proofs.fields.width_of.Statement.{statement}
 use Rattle.sheet.proofs.fields.width_of.Tie as tie
-use Rattle.sheet.proofs.fields.width_of.Reads as reads
-use Rattle.sheet.proofs.fields.width_of.Lts as lts
 
 field-at-requires : tie.Need-field-at-requires
 field-at-requires c κs = search needs
 
 returns : tie.Need-returns
 unfolding width
-returns c = rw (lt-ltb _ 28 (c .before .if1 .taken)) (ap (λ (f : Field). f .0) (c .field-at .ensures))
+returns c = rw (lt-ltb _ count (c .before .if1 .taken)) (ap (λ (f : Field). f .0) (c .field-at .ensures))
 
 returns-2 : tie.Need-returns-2
 unfolding width
-returns-2 c = rw (le-ltb _ 28 (c .if1 .left))
+returns-2 c = rw (le-ltb _ count (c .if1 .left))
 
 pub width-of-spec : {M : Type 1} → statement M
 width-of-spec = tie.close (tie.spec field-at-requires returns returns-2)
