@@ -26,8 +26,8 @@ module _ (q q' : Stretch) (h : Harder q q') (k : ℕ) (hk : q .draft + q .allowa
 
     never-cured : (r r' : Depth) → AsDefined q r → AsDefined q' r' → NeverCured r r'
     never-cured (Cut f) r' a a' = tt
-    never-cured NoCut (Cut f') a a' = a (f' .cut .0 - k) (meets-easier (f' .cut .0) (a' .cut .holds) .1)
-    never-cured NoCut NoCut a a' = tt
+    never-cured (NoCut fault) (Cut f') a a' = a (f' .cut .0 - k) (meets-easier (f' .cut .0) (a' .cut .holds) .1)
+    never-cured (NoCut fault) (NoCut fault') a a' = tt
 
     pub work-never-cured : NeverCured (workDepth q) (workDepth q')
     work-never-cured = never-cured (workDepth q) (workDepth q') (work-as-defined q) (work-as-defined q')
@@ -37,9 +37,9 @@ module _ (q q' : Stretch) (h : Harder q q') (k : ℕ) (hk : q .draft + q .allowa
   deeper (Cut f) (Cut f') a a' =
       let g = meets-easier (table-speed q _ (a .cut .holds .served .entry)) (f' .cut .0) (a' .cut .holds) in
       omega (arith, g .0, a .cut .least (f' .cut .0 - k) (g .1))
-  deeper (Cut f) NoCut a a' = tt
-  deeper NoCut (Cut f') a a' = tt
-  deeper NoCut NoCut a a' = tt
+  deeper (Cut f) (NoCut fault) a a' = tt
+  deeper (NoCut fault) (Cut f') a a' = tt
+  deeper (NoCut fault) (NoCut fault') a a' = tt
 
   pub work-deeper : Deeper k (workDepth q) (workDepth q')
   work-deeper = deeper (workDepth q) (workDepth q') (work-as-defined q) (work-as-defined q')

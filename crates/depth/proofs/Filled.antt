@@ -79,7 +79,10 @@ module _ (q : Stretch) where
         ap (λ (v : Worksheet). getD (v .tries) (v .count - 1) blankTry) is
         ∙ last-line (tries q) (tries-count q .0) (tries-count q .1)
 
+  pub last-line-is : getD (worksheetOf q .tries) (worksheetOf q .count - 1) blankTry ≡ lastTry (tries q)
+  last-line-is = last-is (worksheetOf q) refl
+
   -- the depth is the answer of the last line
   pub work-of-last : workDepth q ≡ answerOf (getD (worksheetOf q .tries) (worksheetOf q .count - 1) blankTry) (worksheetOf q .count)
   unfolding workDepth
-  work-of-last = sym (ap₂ answerOf (last-is (worksheetOf q) refl) (count-is (worksheetOf q) refl))
+  work-of-last = sym (ap₂ answerOf last-line-is (count-is (worksheetOf q) refl))

@@ -8,21 +8,23 @@ use borrow.Author.Tests.{leb-true, leb-false, ltb-true, ltb-false, eqb-true, eqb
 use lib.Dec.{leb, ltb, eqb}
 use Rattle.laws.specs.Choice.{if_then_else_}
 use Rattle.depth.specs.declared.Try.{Try}
+use Rattle.depth.specs.declared.Fault.{Fault}
+use Rattle.depth.specs.declared.Fault.the-variants.{NoSquatEntry, SiltOver, CutOver}
 use Rattle.depth.specs.declared.Finding.{Finding}
 use Rattle.depth.specs.declared.Finding.the-variants.{Stays, Moves, Unusable}
 use Rattle.depth.specs.Squat.{none, columnNumber}
 use Rattle.depth.specs.Worksheet.{findingOf, isMove, movesOn, answerBy, answerOf}
 
 module _ (t : Try) where
-  pub no-entry : none ≤ t .squat → Unusable ≡ findingOf t
+  pub no-entry : none ≤ t .squat → Unusable NoSquatEntry ≡ findingOf t
   unfolding findingOf
   no-entry h = simp (le-leb _ _ h)
 
-  pub too-much-silt : t .squat < none → 120 < t .silt → Unusable ≡ findingOf t
+  pub too-much-silt : t .squat < none → 120 < t .silt → Unusable SiltOver ≡ findingOf t
   unfolding findingOf
   too-much-silt e h = simp (lt-leb _ _ e, lt-ltb _ _ h)
 
-  pub too-deep : t .squat < none → t .silt ≤ 120 → 3000 < t .figure .0 → Unusable ≡ findingOf t
+  pub too-deep : t .squat < none → t .silt ≤ 120 → 3000 < t .figure .0 → Unusable CutOver ≡ findingOf t
   unfolding findingOf
   too-deep e s h = simp (lt-leb _ _ e, le-ltb _ _ s, lt-ltb _ _ h)
 
@@ -42,11 +44,22 @@ pub record Within (t : Try) : Type 0 where
   pub silt : t .silt ≤ 120
   pub to : t .figure .0 ≤ 3000
 
+-- a try past a limit, and past none before it
+abbrev pub Past : Try → Fault → Type 0
+Past t NoSquatEntry = none ≤ t .squat
+Past t SiltOver = (t .squat < none) × (120 < t .silt)
+Past t CutOver = (t .squat < none) × (t .silt ≤ 120) × (3000 < t .figure .0)
+
+pub not-within : (t : Try) (fault : Fault) → Past t fault → Within t → ⊥
+not-within t NoSquatEntry p w = omega (arith, w .entry)
+not-within t SiltOver p w = omega (arith, w .silt)
+not-within t CutOver p w = omega (arith, w .to)
+
 -- what a finding says of its try
 abbrev pub Says : Try → Finding → Type 0
 Says t Stays = Within t × (columnNumber (t .«falls_in») ≡ columnNumber (t .column))
 Says t Moves = Within t × (columnNumber (t .«falls_in») ≡ columnNumber (t .column) → ⊥)
-Says t Unusable = Within t → ⊥
+Says t (Unusable fault) = Past t fault
 
 pub finding-says : (t : Try) → Says t (findingOf t)
 unfolding findingOf
@@ -56,10 +69,10 @@ finding-says t =
   where
     go : (a b d e : Bool) → leb none (t .squat) ≡ a → ltb 120 (t .silt) ≡ b → ltb 3000 (t .figure .0) ≡ d
         → eqb (columnNumber (t .«falls_in»)) (columnNumber (t .column)) ≡ e
-        → Says t (if a then Unusable else (if b then Unusable else (if d then Unusable else (if e then Stays else Moves))))
-    go true b d e ea eb ed ee = λ w. omega (arith, leb-true, w .entry)
-    go false true d e ea eb ed ee = λ w. omega (arith, ltb-true, w .silt)
-    go false false true e ea eb ed ee = λ w. omega (arith, ltb-true, w .to)
+        → Says t (if a then Unusable NoSquatEntry else (if b then Unusable SiltOver else (if d then Unusable CutOver else (if e then Stays else Moves))))
+    go true b d e ea eb ed ee = leb-true _ _ ea
+    go false true d e ea eb ed ee = (leb-false _ _ ea, ltb-true _ _ eb)
+    go false false true e ea eb ed ee = (leb-false _ _ ea, ltb-false _ _ eb, ltb-true _ _ ed)
     go false false false true ea eb ed ee =
         (record { entry = leb-false _ _ ea; silt = ltb-false _ _ eb; to = ltb-false _ _ ed }, eqb-true _ _ ee)
     go false false false false ea eb ed ee =

@@ -14,25 +14,23 @@ use Rattle.depth.specs.declared.Stretch.{Stretch}
 use Rattle.depth.specs.declared.Column.{Column}
 use Rattle.depth.specs.declared.Column.the-variants.{A}
 use Rattle.depth.specs.declared.Try.{Try}
+use Rattle.depth.specs.declared.Fault.{Fault}
+use Rattle.depth.specs.declared.Fault.the-variants.{NoSquatEntry, SiltOver, CutOver}
 use Rattle.depth.specs.declared.Finding.{Finding}
 use Rattle.depth.specs.declared.Finding.the-variants.{Stays, Moves, Unusable}
 use Rattle.depth.specs.declared.DepthFigures.{DepthFigures}
 use Rattle.depth.specs.declared.Depth.{Depth}
 use Rattle.depth.specs.declared.Depth.the-variants.{Cut, NoCut}
 use Rattle.depth.specs.Squat.{none, columnNumber, squatReading}
-use Rattle.depth.specs.Depth.{z3, z4, sailing, sailingWith, naturalOf, ownColumn, Serves, Meets, Figures, AsDefined, Ranges, depthNumber}
+use Rattle.depth.specs.Depth.{z3, z4, sailing, sailingWith, naturalOf, ownColumn, Serves, Meets, Figures, AsDefined, Ranges, faultNumber, depthNumber}
 use Rattle.depth.specs.Worksheet.{figure, columnTry, findingOf, isMove, movesOn, tries, lastTry, answerBy, answerOf, workDepth, Forward, Followed, Counted}
 use Rattle.depth.proofs.Columns.{column-most, reading-most, column-up, same-column}
 use Rattle.depth.proofs.Squat.{squat-some}
-use Rattle.depth.proofs.Findings.{Says, finding-says}
+use Rattle.depth.proofs.Findings.{Says, finding-says, not-within}
 use Rattle.depth.proofs.Easier.{serves-earlier}
 use Rattle.depth.proofs.Tries.{tries-count}
 use Rattle.depth.proofs.Following.{walk-followed}
 use Rattle.depth.proofs.Walk.{Tells, Ends, Walked, walk-right}
-
--- a depth of these figures
-abbrev cutOf : ℕ → ℕ → ℕ → Depth
-cutOf cut sailing columns = Cut (record { cut = below cut; sailing = below sailing; columns = columns })
 
 module _ (q : Stretch) where
   -- what a try says that ends this stretch's worksheet
@@ -65,8 +63,8 @@ module _ (q : Stretch) where
         e,
       )
   line-tells c Moves s = (figure-least c (s .0 .entry) (s .0 .silt), refl, s .1)
-  line-tells c Unusable s = λ d v m.
-      s (record { entry = v .entry; silt = v .silt; to = omega (arith, figure-under c d v, m .to) })
+  line-tells c (Unusable fault) s = λ d v m.
+      not-within (columnTry q c) fault s (record { entry = v .entry; silt = v .silt; to = omega (arith, figure-under c d v, m .to) })
 
   line-column : (c : Column) → columnTry q c .column ≡ c
   unfolding columnTry
@@ -85,7 +83,7 @@ module _ (q : Stretch) where
   unfolding columnTry
   answer-as-defined t Stays columns e = record { cut = e .0; sailing-depth = ap (λ (u : Try). u .sailing .0) (e .1) }
   answer-as-defined t Moves columns e = absurd e
-  answer-as-defined t Unusable columns e = e
+  answer-as-defined t (Unusable fault) columns e = e
 
   pub work-as-defined : AsDefined q (workDepth q)
   unfolding workDepth answerOf
@@ -94,7 +92,7 @@ module _ (q : Stretch) where
   answer-counted : (t : Try) (f : Finding) → Counted q (answerBy f t (length (tries q)))
   answer-counted t Stays = refl
   answer-counted t Moves = tt
-  answer-counted t Unusable = tt
+  answer-counted t (Unusable fault) = tt
 
   pub work-counted : Counted q (workDepth q)
   unfolding workDepth answerOf
@@ -104,38 +102,24 @@ module _ (q : Stretch) where
   no-move : (t : Try) (f : Finding) → EndsIt t f → isMove f ≡ false
   no-move t Stays e = refl
   no-move t Moves e = absurd e
-  no-move t Unusable e = refl
+  no-move t (Unusable fault) e = refl
+
+  pub last-stops : movesOn (lastTry (tries q)) ≡ false
+  unfolding movesOn
+  last-stops = no-move (lastTry (tries q)) (findingOf (lastTry (tries q))) (walked .ends)
 
   pub tries-followed : Followed (columnTry q) A (tries q)
-  unfolding tries movesOn
-  tries-followed = walk-followed (columnTry q) 2 A (no-move (lastTry (tries q)) (findingOf (lastTry (tries q))) (walked .ends))
+  unfolding tries
+  tries-followed = walk-followed (columnTry q) 2 A last-stops
 
-  -- one depth is as defined
-  one-depth : (r s : Depth) → AsDefined q r → AsDefined q s → Counted q r → Counted q s → r ≡ s
-  one-depth (Cut f) (Cut g) a b m n =
-      let e : f .cut .0 ≡ g .cut .0 = least-only (Meets q) (f .cut .0) (g .cut .0) (a .cut) (b .cut) in
-      let k : f .sailing .0 ≡ g .sailing .0 = a .sailing-depth ∙ ap (λ (d : ℕ). sailing q (ownColumn q d)) e ∙ sym (b .sailing-depth) in
-      let l : f .columns ≡ g .columns = m ∙ sym n in
-      ap (λ (d : ℕ). cutOf d (f .sailing .0) (f .columns)) e
-      ∙ ap (λ (s : ℕ). cutOf (g .cut .0) s (f .columns)) k
-      ∙ ap (λ (n : ℕ). cutOf (g .cut .0) (g .sailing .0) n) l
-  one-depth (Cut f) NoCut a b m n = absurd (b (f .cut .0) (a .cut .holds))
-  one-depth NoCut (Cut g) a b m n = absurd (a (g .cut .0) (b .cut .holds))
-  one-depth NoCut NoCut a b m n = refl
-
-  pub no-other : (r : Depth) → AsDefined q r → Counted q r → r ≡ workDepth q
-  no-other r a n = one-depth r (workDepth q) a work-as-defined n work-counted
-
-  no-cut-when : (r : Depth) → AsDefined q r → (depthNumber r ≡ 9) ↔ ((d : ℕ) → Meets q d → ⊥)
-  no-cut-when (Cut f) a = ((λ e. absurd (omega arith)), (λ n. absurd (n (f .cut .0) (a .cut .holds))))
-  no-cut-when NoCut a = ((λ e. a), (λ n. refl))
-
-  pub nine-exactly : (depthNumber (workDepth q) ≡ 9) ↔ ((d : ℕ) → Meets q d → ⊥)
-  nine-exactly = no-cut-when (workDepth q) work-as-defined
+  some : (fault : Fault) → faultNumber fault ≡ 0 → ⊥
+  some NoSquatEntry e = omega arith
+  some SiltOver e = omega arith
+  some CutOver e = omega arith
 
   answered-when : (r : Depth) → AsDefined q r → (depthNumber r ≡ 0) ↔ ((d : ℕ) × Meets q d)
   answered-when (Cut f) a = ((λ e. (f .cut .0, a .cut .holds)), (λ m. refl))
-  answered-when NoCut a = ((λ e. absurd (omega arith)), (λ m. absurd (a (m .0) (m .1))))
+  answered-when (NoCut fault) a = ((λ e. absurd (some fault e)), (λ m. absurd (a (m .0) (m .1))))
 
   pub zero-exactly : (depthNumber (workDepth q) ≡ 0) ↔ ((d : ℕ) × Meets q d)
   zero-exactly = answered-when (workDepth q) work-as-defined

@@ -8,6 +8,7 @@ pub mod Walk
 pub mod Following
 pub mod Easier
 pub mod LeastCut
+pub mod Reasons
 pub mod Demand
 pub mod Starred
 pub mod Promises

@@ -1,6 +1,6 @@
 -- What the depth promises, in the definition's order. Each proof cites the one that does the work.
 -- Assumes nothing.
-use mathlib.Core.Path.{_≡_}
+use mathlib.Core.Path.{_≡_, ap, _∙_}
 use mathlib.Core.Logic.{_↔_}
 use mathlib.Core.List.{List, map}
 use Prim.Native.Nat.{ℕ, _-_, _≤_}
@@ -12,20 +12,24 @@ use Rattle.depth.specs.declared.Stretch.{Stretch}
 use Rattle.depth.specs.declared.Column.{Column}
 use Rattle.depth.specs.declared.Column.the-variants.{A}
 use Rattle.depth.specs.declared.Try.{Try}
+use Rattle.depth.specs.declared.Fault.{Fault}
+use Rattle.depth.specs.declared.Finding.the-variants.{Unusable}
 use Rattle.depth.specs.declared.Worksheet.{Worksheet}
 use Rattle.depth.specs.declared.DepthFigures.{DepthFigures}
 use Rattle.depth.specs.declared.Depth.{Depth}
-use Rattle.depth.specs.declared.Depth.the-variants.{Cut}
+use Rattle.depth.specs.declared.Depth.the-variants.{Cut, NoCut}
 use Rattle.depth.specs.Interval.{intervalOf}
 use Rattle.depth.specs.Squat.{columnNumber, squatReading, squatOf}
-use Rattle.depth.specs.Depth.{Meets, AsDefined, Ranges, depthNumber}
-use Rattle.depth.specs.Worksheet.{columnTry, blankTry, tries, worksheetOf, answerOf, workDepth, Forward, Followed, Counted}
+use Rattle.depth.specs.Depth.{Meets, AsDefined, Ranges, faultNumber, depthNumber, NoDepthNumber}
+use Rattle.depth.specs.Worksheet.{columnTry, blankTry, findingOf, tries, worksheetOf, answerOf, workDepth, Forward, Followed, Counted}
+use Rattle.depth.specs.Reasons.{FirstUnusable, Reasoned}
 use Rattle.depth.specs.Harder.{Harder, Deeper, NeverCured}
 use Rattle.depth.proofs.Squat.{lanes-columns-speeds}
 use Rattle.depth.proofs.Tries.{tries-count}
-use Rattle.depth.proofs.Filled.{work-of-last}
+use Rattle.depth.proofs.Filled.{work-of-last, last-line-is}
 use Rattle.depth.proofs.Following.{one-following}
 use Rattle.depth.proofs.LeastCut as least-cut
+use Rattle.depth.proofs.Reasons as reasons
 use Rattle.depth.proofs.Demand.{work-deeper, work-never-cured, meets-too}
 use Rattle.depth.proofs.Starred as the-starred
 
@@ -38,13 +42,18 @@ squat-never-falls = lanes-columns-speeds
 pub depth-is-as-defined : (q : Stretch) → AsDefined q (workDepth q)
 depth-is-as-defined = least-cut.work-as-defined
 
--- Nothing else is that depth, with the worksheet's count.
-pub no-other-depth : (q : Stretch) (r : Depth) → AsDefined q r → Counted q r → r ≡ workDepth q
-no-other-depth = least-cut.no-other
+-- Nothing else is that depth, with the worksheet's count and its reason.
+pub no-other-depth : (q : Stretch) (r : Depth) → AsDefined q r → Counted q r → Reasoned q r → r ≡ workDepth q
+no-other-depth = reasons.no-other
 
--- 9 is given exactly when there is no cut as defined, and the depth is answered exactly when there is one.
-pub nine-exactly : (q : Stretch) → (depthNumber (workDepth q) ≡ 9) ↔ ((d : ℕ) → Meets q d → ⊥)
-nine-exactly = least-cut.nine-exactly
+-- 13 no squat entry, 14 silt over 120, 15 cut over 3,000: given exactly when the first column that the worksheet cannot use fails by this test
+-- and by none before it.
+pub number-exactly : (q : Stretch) (fault : Fault) → (depthNumber (workDepth q) ≡ faultNumber fault) ↔ FirstUnusable q fault
+number-exactly = reasons.number-exactly
+
+-- One of the three is given exactly when there is no cut as defined, and the depth is answered exactly when there is one.
+pub no-depth-exactly : (q : Stretch) → NoDepthNumber (depthNumber (workDepth q)) ↔ ((d : ℕ) → Meets q d → ⊥)
+no-depth-exactly = reasons.no-depth-exactly
 
 pub answered-exactly : (q : Stretch) → (depthNumber (workDepth q) ≡ 0) ↔ ((d : ℕ) × Meets q d)
 answered-exactly = least-cut.zero-exactly
@@ -73,6 +82,11 @@ pub depth-of-last-try : (q : Stretch)
     → workDepth q ≡ answerOf (getD (worksheetOf q .tries) (worksheetOf q .count - 1) blankTry) (worksheetOf q .count)
 depth-of-last-try = work-of-last
 
+-- Where there is no depth, the last line of the worksheet is the try that fails, and shows the reason.
+pub failing-try-shown : (q : Stretch) (fault : Fault) → workDepth q ≡ NoCut fault
+    → findingOf (getD (worksheetOf q .tries) (worksheetOf q .count - 1) blankTry) ≡ Unusable fault
+failing-try-shown q fault e = ap findingOf (last-line-is q) ∙ reasons.last-shows q fault e
+
 -- The figures are within these ranges.
 pub figures-in-range : (q : Stretch) (f : DepthFigures) → workDepth q ≡ Cut f → Ranges f
 figures-in-range = least-cut.figures-ranges
@@ -85,7 +99,7 @@ never-shallower q q' h = work-deeper q q' h 0 (omega arith)
 pub meets-the-easier : (q q' : Stretch) → Harder q q' → 2 ≤ q .speed → (d : ℕ) → Meets q' d → Meets q d
 meets-the-easier = meets-too
 
--- Nor is a refusal ever cured by it. A speed under 2 has no entry and a faster one may have, so the easier speed is at least 2, as on every sheet.
+-- Nor is a refusal, any of the three, ever cured by it; it may become another of them. A speed under 2 has no entry and a faster one may have, so the easier speed is at least 2, as on every sheet.
 pub never-cured : (q q' : Stretch) → Harder q q' → 2 ≤ q .speed → NeverCured (workDepth q) (workDepth q')
 never-cured q q' h from = work-never-cured q q' h 0 (omega arith) from
 

@@ -1,5 +1,6 @@
 -- Depth below the design level (sections 4.2 to 4.6), all in cm: what the cut is, with no method of finding it.
 use mathlib.Core.Path.{_≡_}
+use mathlib.Core.Logic.{_⊎_}
 use Prim.Native.Nat.{ℕ, _+_, _-_, _*_, _≤_, _<_}
 use Rattle.laws.specs.Choice.{if_then_else_, _≤ᵇ_}
 use Rattle.laws.specs.Rounding.{up}
@@ -8,6 +9,8 @@ use Rattle.depth.specs.declared.Stretch.{Stretch}
 use Rattle.depth.specs.declared.Column.{Column}
 use Rattle.depth.specs.declared.Column.the-variants.{A, B, C}
 use Rattle.depth.specs.declared.DepthFigures.{DepthFigures}
+use Rattle.depth.specs.declared.Fault.{Fault}
+use Rattle.depth.specs.declared.Fault.the-variants.{NoSquatEntry, SiltOver, CutOver}
 use Rattle.depth.specs.declared.Depth.{Depth}
 use Rattle.depth.specs.declared.Depth.the-variants.{Cut, NoCut}
 use Rattle.depth.specs.Squat.{none, squatOf}
@@ -77,7 +80,7 @@ pub record Figures (q : Stretch) (f : DepthFigures) : Type 0 where
 -- a depth as it is defined: the figures, or that no cut meets this
 abbrev pub AsDefined : Stretch → Depth → Type 0
 AsDefined q (Cut f) = Figures q f
-AsDefined q NoCut = (d : ℕ) → Meets q d → ⊥
+AsDefined q (NoCut fault) = (d : ℕ) → Meets q d → ⊥
 
 -- the ranges of the figures, for whoever uses them
 pub record Ranges (f : DepthFigures) : Type 0 where
@@ -88,6 +91,15 @@ pub record Ranges (f : DepthFigures) : Type 0 where
   pub columns-to : f .columns ≤ 3
 
 -- the number that turns a sheet away (section 8), 0 for none
+abbrev pub faultNumber : Fault → ℕ
+faultNumber NoSquatEntry = 13
+faultNumber SiltOver = 14
+faultNumber CutOver = 15
+
+-- "no depth" is any of the three
+abbrev pub NoDepthNumber : ℕ → Type 0
+NoDepthNumber number = (number ≡ 13) ⊎ ((number ≡ 14) ⊎ (number ≡ 15))
+
 abbrev pub depthNumber : Depth → ℕ
 depthNumber (Cut f) = 0
-depthNumber NoCut = 9
+depthNumber (NoCut fault) = faultNumber fault

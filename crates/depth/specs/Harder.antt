@@ -21,12 +21,12 @@ pub record Harder (q q' : Stretch) : Type 0 where
 -- where both are answered, the second cut is deeper by k cm or more
 abbrev pub Deeper : ℕ → Depth → Depth → Type 0
 Deeper k (Cut f) (Cut f') = f .cut .0 + k ≤ f' .cut .0
-Deeper k (Cut f) NoCut = Unit {0}
-Deeper k NoCut (Cut f') = Unit {0}
-Deeper k NoCut NoCut = Unit {0}
+Deeper k (Cut f) (NoCut fault) = Unit {0}
+Deeper k (NoCut fault) (Cut f') = Unit {0}
+Deeper k (NoCut fault) (NoCut fault') = Unit {0}
 
 -- the second is answered only where the first is
 abbrev pub NeverCured : Depth → Depth → Type 0
 NeverCured (Cut f) r = Unit {0}
-NeverCured NoCut (Cut f') = ⊥
-NeverCured NoCut NoCut = Unit {0}
+NeverCured (NoCut fault) (Cut f') = ⊥
+NeverCured (NoCut fault) (NoCut fault') = Unit {0}

@@ -3,4 +3,5 @@ pub mod Interval
 pub mod Squat
 pub mod Depth
 pub mod Worksheet
+pub mod Reasons
 pub mod Harder

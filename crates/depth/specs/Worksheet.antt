@@ -11,6 +11,7 @@ use Rattle.depth.specs.declared.Column.{Column}
 use Rattle.depth.specs.declared.Column.the-variants.{A}
 use Rattle.depth.specs.declared.ReckonedDepth.{ReckonedDepth}
 use Rattle.depth.specs.declared.Try.{Try}
+use Rattle.depth.specs.declared.Fault.the-variants.{NoSquatEntry, SiltOver, CutOver}
 use Rattle.depth.specs.declared.Finding.{Finding}
 use Rattle.depth.specs.declared.Finding.the-variants.{Stays, Moves, Unusable}
 use Rattle.depth.specs.declared.Worksheet.{Worksheet}
@@ -42,18 +43,18 @@ columnTry q c = record {
 unfoldable pub findingOf : Try → Finding
 findingOf t =
     if none ≤ᵇ t .squat
-    then Unusable
+    then Unusable NoSquatEntry
     else (if 120 <ᵇ t .silt
-    then Unusable
+    then Unusable SiltOver
     else (if 3000 <ᵇ t .figure .0
-    then Unusable
+    then Unusable CutOver
     else (if columnNumber (t .«falls_in») =ᵇ columnNumber (t .column) then Stays else Moves)))
 
 -- the worksheet goes on from a try
 abbrev pub isMove : Finding → Bool
 isMove Stays = false
 isMove Moves = true
-isMove Unusable = false
+isMove (Unusable fault) = false
 
 unfoldable pub movesOn : Try → Bool
 movesOn t = isMove (findingOf t)
@@ -84,8 +85,8 @@ lastTry (t ∷ (u ∷ later)) = lastTry (u ∷ later)
 -- the answer of a try that is the last of so many columns
 abbrev pub answerBy : Finding → Try → ℕ → Depth
 answerBy Stays t columns = Cut (record { cut = below (t .figure .0); sailing = below (t .sailing .0); columns = columns })
-answerBy Moves t columns = NoCut
-answerBy Unusable t columns = NoCut
+answerBy Moves t columns = NoCut CutOver
+answerBy (Unusable fault) t columns = NoCut fault
 
 unfoldable pub answerOf : Try → ℕ → Depth
 answerOf t columns = answerBy (findingOf t) t columns
@@ -103,7 +104,7 @@ Followed line c (t ∷ (u ∷ later)) = (t ≡ line c) × (movesOn t ≡ true) �
 -- a depth that counts the columns as the worksheet has them
 abbrev pub Counted : Stretch → Depth → Type 0
 Counted q (Cut f) = f .columns ≡ length (tries q)
-Counted q NoCut = Unit {0}
+Counted q (NoCut fault) = Unit {0}
 
 -- tries that never move back: each is in a later column than the one before it
 abbrev pub Forward : List Try → Type 0

@@ -45,11 +45,18 @@ pub struct Try {
     pub falls_in: Column,
 }
 
+// Why the worksheet cannot use a column: no entry in the squat table, silt over 120, a cut over 3,000, tested in this order.
+pub enum Fault {
+    NoSquatEntry,
+    SiltOver,
+    CutOver,
+}
+
 // What a try comes to: the worksheet stays in its column, or moves to the one its figure falls in, or cannot use the column.
 pub enum Finding {
     Stays,
     Moves,
-    Unusable,
+    Unusable(Fault),
 }
 
 // The worksheet: its tries in order, `count` of them, then blank ones.
@@ -65,10 +72,10 @@ pub struct DepthFigures {
     pub columns: u8,
 }
 
-// The depth of a stretch, or the reason why it has none.
+// The depth of a stretch, or why the first column that its worksheet cannot use gives none.
 pub enum Depth {
     Cut(DepthFigures),
-    NoCut,
+    NoCut(Fault),
 }
 
 // The mark of no entry in the squat table: greater than every entry.
@@ -230,13 +237,13 @@ fn finding_of(tried: Try) -> Finding
     ensures { λ r. ⌜ r ≡ findingOf tried ⌝ }
 {
     if NONE <= tried.squat {
-        return Finding::Unusable;
+        return Finding::Unusable(Fault::NoSquatEntry);
     }
     if 120 < tried.silt {
-        return Finding::Unusable;
+        return Finding::Unusable(Fault::SiltOver);
     }
     if 3000 < tried.figure.0 {
-        return Finding::Unusable;
+        return Finding::Unusable(Fault::CutOver);
     }
     let falls_in = tried.falls_in;
     let column = tried.column;
@@ -254,7 +261,7 @@ fn moves_on(tried: Try) -> bool
     match finding_of(tried) {
         Finding::Stays => false,
         Finding::Moves => true,
-        Finding::Unusable => false,
+        Finding::Unusable(_) => false,
     }
 }
 
@@ -297,8 +304,9 @@ fn answer_of(last: Try, columns: u8) -> Depth
             sailing: BelowLevel(last.sailing.0 as u16),
             columns,
         }),
-        Finding::Moves => Depth::NoCut,
-        Finding::Unusable => Depth::NoCut,
+        // no last try moves
+        Finding::Moves => Depth::NoCut(Fault::CutOver),
+        Finding::Unusable(fault) => Depth::NoCut(fault),
     }
 }
 

@@ -14,17 +14,17 @@ finding-of-requires c κs = search needs
 enum-told : tie.Need-enum-told
 enum-told c = search needs
 
-cast-t5 : tie.Need-cast-t5
-cast-t5 c = omega (arith, stays-within (c .before .before .before .before .args .last) (sym (c .before .before .before .finding-of .ensures) ∙ c .before .enum-told .given .1) .to)
+cast-t6 : tie.Need-cast-t6
+cast-t6 c = omega (arith, stays-within (c .before .before .before .before .args .last) (sym (c .before .before .before .finding-of .ensures) ∙ c .before .enum-told .given .1) .to)
 
-cast-t7 : tie.Need-cast-t7
-cast-t7 c = omega (arith, stays-within (c .before .before .before .before .before .args .last) (sym (c .before .before .before .before .finding-of .ensures) ∙ c .before .before .enum-told .given .1) .to)
+cast-t8 : tie.Need-cast-t8
+cast-t8 c = omega (arith, stays-within (c .before .before .before .before .before .args .last) (sym (c .before .before .before .before .finding-of .ensures) ∙ c .before .before .enum-told .given .1) .to)
 
 enum-told-2 : tie.Need-enum-told-2
 enum-told-2 c = search needs
 
-enum-told-3 : tie.Need-enum-told-3
-enum-told-3 c = search needs
+enum-known-fault : tie.Need-enum-known-fault
+enum-known-fault c = search needs
 
 returns : tie.Need-returns
 returns c = let a = c .before .before .before .before .before .args in answer-by (a .last) Stays (sym (c .before .before .before .before .finding-of .ensures) ∙ c .before .before .enum-told .given .1) (a .columns)
@@ -33,7 +33,9 @@ returns-2 : tie.Need-returns-2
 returns-2 c = let a = c .before .before .before .args in answer-by (a .last) Moves (sym (c .before .before .finding-of .ensures) ∙ c .enum-told2 .given .1) (a .columns)
 
 returns-3 : tie.Need-returns-3
-returns-3 c = let a = c .before .before .before .args in answer-by (a .last) Unusable (sym (c .before .before .finding-of .ensures) ∙ c .enum-told3 .given .1) (a .columns)
+returns-3 c =
+    let a = c .before .before .before .before .args in
+    answer-by (a .last) (Unusable (c .before .fault .given .0 .0)) (sym (c .before .before .before .finding-of .ensures) ∙ c .before .fault .given .1) (a .columns)
 
 pub answer-of-spec : {M : Type 1} → statement M
 answer-of-spec =
@@ -41,10 +43,10 @@ answer-of-spec =
     (tie.spec
     finding-of-requires
     enum-told
-    cast-t5
-    cast-t7
+    cast-t6
+    cast-t8
     enum-told-2
-    enum-told-3
+    enum-known-fault
     returns
     returns-2
     returns-3)

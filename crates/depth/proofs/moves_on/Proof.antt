@@ -26,7 +26,7 @@ returns-2 : tie.Need-returns-2
 returns-2 c = moves-by (c .before .before .before .args .tried) Moves (sym (c .before .before .finding-of .ensures) ∙ c .enum-told2 .given .1)
 
 returns-3 : tie.Need-returns-3
-returns-3 c = moves-by (c .before .before .before .args .tried) Unusable (sym (c .before .before .finding-of .ensures) ∙ c .enum-told3 .given .1)
+returns-3 c = moves-by (c .before .before .before .args .tried) (Unusable (c .enum-told3 .given .0 .0)) (sym (c .before .before .finding-of .ensures) ∙ c .enum-told3 .given .1)
 
 pub moves-on-spec : {M : Type 1} → statement M
 moves-on-spec =

@@ -1,0 +1,41 @@
+-- Why a stretch has no depth (section 4.7): the first column that the worksheet cannot use, with no word of how the worksheet is followed.
+use mathlib.Core.Logic.{_≢_}
+use Prim.Native.Nat.{_≤_, _<_}
+use Rattle.depth.specs.declared.Stretch.{Stretch}
+use Rattle.depth.specs.declared.Column.{Column}
+use Rattle.depth.specs.declared.Column.the-variants.{A}
+use Rattle.depth.specs.declared.Fault.{Fault}
+use Rattle.depth.specs.declared.Fault.the-variants.{NoSquatEntry, SiltOver, CutOver}
+use Rattle.depth.specs.declared.Depth.{Depth}
+use Rattle.depth.specs.declared.Depth.the-variants.{Cut, NoCut}
+use Rattle.depth.specs.Squat.{none}
+use Rattle.depth.specs.Depth.{z3, z4, ownColumn}
+use Rattle.depth.specs.Worksheet.{figure}
+
+-- a column that can be used: an entry, silt of at most 120, a figure of at most 3,000
+pub record Usable (q : Stretch) (c : Column) : Type 0 where
+  pub entry : z3 q c < none
+  pub silt : z4 q c ≤ 120
+  pub to : figure q c ≤ 3000
+
+-- a column that fails by a test, and by none before it
+abbrev pub Fails : Stretch → Column → Fault → Type 0
+Fails q c NoSquatEntry = none ≤ z3 q c
+Fails q c SiltOver = (z3 q c < none) × (120 < z4 q c)
+Fails q c CutOver = (z3 q c < none) × (z4 q c ≤ 120) × (3000 < figure q c)
+
+-- from a column the worksheet comes to another: it is there, or it can use the column and its figure falls in one from which it comes there
+pub data Comes (q : Stretch) : Column → Column → Type 0 where
+  there : (c : Column) → Comes q c c
+  by-way-of : (c c' : Column) → Usable q c → ownColumn q (figure q c) ≢ c → Comes q (ownColumn q (figure q c)) c' → Comes q c c'
+
+-- the first column that the worksheet cannot use fails by a test: the columns before it moved on
+pub record FirstUnusable (q : Stretch) (fault : Fault) : Type 0 where
+  pub column : Column
+  pub reached : Comes q A column
+  pub fails : Fails q column fault
+
+-- a depth with its reason
+abbrev pub Reasoned : Stretch → Depth → Type 0
+Reasoned q (Cut f) = Unit {0}
+Reasoned q (NoCut fault) = FirstUnusable q fault
