@@ -51,6 +51,10 @@ no-other-depth = reasons.no-other
 pub number-exactly : (q : Stretch) (fault : Fault) → (depthNumber (workDepth q) ≡ faultNumber fault) ↔ FirstUnusable q fault
 number-exactly = reasons.number-exactly
 
+-- A stretch with a first column that the worksheet cannot use has no cut as defined.
+pub unusable-none : (q : Stretch) (fault : Fault) → FirstUnusable q fault → (d : ℕ) → Meets q d → ⊥
+unusable-none = reasons.no-meeting
+
 -- One of the three is given exactly when there is no cut as defined, and the depth is answered exactly when there is one.
 pub no-depth-exactly : (q : Stretch) → NoDepthNumber (depthNumber (workDepth q)) ↔ ((d : ℕ) → Meets q d → ⊥)
 no-depth-exactly = reasons.no-depth-exactly
@@ -110,6 +114,9 @@ starred = the-starred.starred
 -- Each call has one result.
 pub one-interval : (code r s : ℕ) → r ≡ intervalOf code → s ≡ intervalOf code → r ≡ s
 one-interval code = one-answer
+
+pub one-fault-number : (fault : Fault) (r s : ℕ) → r ≡ faultNumber fault → s ≡ faultNumber fault → r ≡ s
+one-fault-number fault = one-answer
 
 pub one-worksheet : (q : Stretch) (r s : Worksheet) → r ≡ worksheetOf q → s ≡ worksheetOf q → r ≡ s
 one-worksheet q = one-answer

@@ -197,6 +197,9 @@ module _ (q : Stretch) where
     (λ u. ap depthNumber (reason-exactly fault .1 u)),
   )
 
+  pub no-meeting : (fault : Fault) → FirstUnusable q fault → (d : ℕ) → ¬ Meets q d
+  no-meeting fault u = subst (AsDefined q) (reason-exactly fault .1 u) (work-as-defined q)
+
   -- the worksheet's last try shows it
   pub last-shows : (fault : Fault) → workDepth q ≡ NoCut fault → findingOf (lastTry (tries q)) ≡ Unusable fault
   last-shows fault e = last-found fault (reason-exactly fault .0 e)

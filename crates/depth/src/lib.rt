@@ -5,7 +5,7 @@ ghost use lib.ListN.{getD};
 ghost use Rattle.laws.specs.Rounding.{up};
 ghost use Rattle.depth.specs.Interval.{intervalOf};
 ghost use Rattle.depth.specs.Squat.{columnNumber, squatReading, squatOf};
-ghost use Rattle.depth.specs.Depth.{columnOf, sailingWith, siltTo};
+ghost use Rattle.depth.specs.Depth.{columnOf, sailingWith, siltTo, faultNumber};
 ghost use Rattle.depth.specs.Worksheet.{reckoned, columnTry, blankTry, findingOf, movesOn, answerOf, worksheetOf, workDepth};
 use datum::BelowLevel;
 use lanes::Lanes;
@@ -102,6 +102,17 @@ pub fn interval_of(code: u8) -> u16
         return 300;
     }
     INTERVALS[code as usize]
+}
+
+// The number that turns a sheet away for a fault.
+pub fn fault_number(fault: Fault) -> u8
+    ensures { λ r. ⌜ r ≡ faultNumber fault ⌝ }
+{
+    match fault {
+        Fault::NoSquatEntry => 13,
+        Fault::SiltOver => 14,
+        Fault::CutOver => 15,
+    }
 }
 
 // The columns in their order.

@@ -1,10 +1,12 @@
 -- Each answer of a design tells which row holds: the checks are followed in their order, and every row that is passed does not hold.
 -- Assumes nothing.
-use mathlib.Core.Path.{_≡_, refl, sym, ap, subst}
+use mathlib.Core.Path.{_≡_, refl, sym, ap, subst, _∙_}
 use mathlib.Core.Bool.{Bool, true, false}
 use mathlib.Core.List.{List}
+use mathlib.Core.Logic.{_≢_}
 use Prim.Native.Nat.{ℕ, _+_}
 use native.Mathlib.Nat.{not-suc-le-zero}
+use native.Mathlib.Omega.{arith}
 use borrow.Author.Count.{below-more}
 use lib.IntN.{pos}
 use lib.ListN.{length}
@@ -20,13 +22,17 @@ use Rattle.sheet.proofs.Reading.{wrong-length-exactly, spare-exactly, bad-field
 use Rattle.gauge.specs.Designing.{designLevel}
 use Rattle.gauge.specs.declared.LevelRead.{LevelRead}
 use Rattle.lanes.specs.declared.Lanes.{Lanes}
-use Rattle.depth.specs.Depth.{AsDefined, Figures as Meant}
+use Rattle.depth.specs.Depth.{AsDefined, Figures as Meant, faultNumber, depthNumber}
+use Rattle.depth.specs.Reasons.{FirstUnusable}
+use Rattle.depth.specs.declared.Fault.{Fault}
+use Rattle.depth.specs.declared.Fault.the-variants.{NoSquatEntry, SiltOver, CutOver}
 use Rattle.depth.specs.Worksheet.{tries, workDepth, Counted}
 use Rattle.depth.specs.declared.Stretch.{Stretch as DepthStretch}
 use Rattle.depth.specs.declared.Depth.{Depth}
-use Rattle.depth.specs.declared.Depth.the-variants.{Cut, NoCut as NoDepth}
+use Rattle.depth.specs.declared.Depth.the-variants.{Cut, NoCut}
 use Rattle.depth.specs.declared.DepthFigures.{DepthFigures}
 use Rattle.depth.proofs.LeastCut.{work-as-defined, work-counted}
+use Rattle.depth.proofs.Promises.{number-exactly}
 use Rattle.width.specs.Bands.{hasEntries}
 use Rattle.width.specs.Bends.{bendOf, wideningFigure}
 use Rattle.width.specs.Width.{widthFigure}
@@ -39,16 +45,16 @@ use Rattle.design.specs.Refusals.{sheetIn, levelIn, Row, NoneBefore}
 use Rattle.design.specs.Answers.{stretchOf, wideningIn, FiguresAre, NamesFirst}
 use Rattle.design.specs.declared.Figures.{Figures}
 use Rattle.design.specs.declared.Reason.{Reason}
-use Rattle.design.specs.declared.Reason.the-variants.{WrongLength, SpareBitSet, BadField, WrongTable, TooFewReadings, RangeTooWide, BendTooTight, NoWidthEntry, NoCut}
+use Rattle.design.specs.declared.Reason.the-variants.{WrongLength, SpareBitSet, BadField, WrongTable, TooFewReadings, RangeTooWide, BendTooTight, NoWidthEntry, NoDepth}
 use Rattle.design.specs.declared.Answer.{Answer}
 use Rattle.design.specs.declared.Answer.the-variants.{Answered, Refused}
 use Rattle.design.proofs.RoomRows.{LevelTold, unfit, short, wide-range, had, level-told, BendTold, tight, bends, bend-told, EntriesTold, missing, present, entries-told, width-there}
 
--- an answer, and which row holds: that of its number and none before it, or none of the nine
+-- an answer, and which row holds: that of its number and none before it, or none at all
 pub data Told (bytes table : List ℕ) : Answer → Type 0 where
   refused : (r : Reason) → Row bytes table (reasonNumber r) → NoneBefore bytes table (reasonNumber r) → NamesFirst bytes r
       → Told bytes table (Refused r)
-  answered : (f : Figures) → NoneBefore bytes table 10 → FiguresAre (sheetIn bytes) (levelIn (sheetIn bytes) table) f
+  answered : (f : Figures) → NoneBefore bytes table 16 → FiguresAre (sheetIn bytes) (levelIn (sheetIn bytes) table) f
       → Told bytes table (Answered f)
 
 module _ (bytes table : List ℕ) where
@@ -74,7 +80,7 @@ module _ (bytes table : List ℕ) where
 
   -- past 8 the width is there
   width-told : (depth : DepthFigures) → Meant stretch depth → depth .columns ≡ length (tries stretch)
-      → hasEntries (sheet .water) (sheet .speed) (sheet .cross) (sheet .wave) ≡ true → NoneBefore bytes table 10
+      → hasEntries (sheet .water) (sheet .speed) (sheet .cross) (sheet .wave) ≡ true → NoneBefore bytes table 16
       → Told bytes table (atDepth sheet level lanes (pos (wideningIn sheet)) depth)
   unfolding atDepth
   width-told depth meant count e before =
@@ -95,14 +101,30 @@ module _ (bytes table : List ℕ) where
         depth-class = refl;
       }))
 
-  -- 9
-  depth-told : (d : Depth) → AsDefined stretch d → Counted stretch d
-      → hasEntries (sheet .water) (sheet .speed) (sheet .cross) (sheet .wave) ≡ true → NoneBefore bytes table 9
-      → Told bytes table (byDepth sheet level lanes (pos (wideningIn sheet)) d)
+  -- 13, 14, 15, and none between 8 and 13
+  past-eight : NoneBefore bytes table 9 → NoneBefore bytes table 13
   unfolding Row
-  depth-told (Cut depth) meant count e before =
-      width-told depth meant count e (past 9 before (λ none. none (depth .cut .0) (meant .cut .holds)))
-  depth-told NoDepth none count e before = refused NoCut none before tt
+  past-eight before = past 12 (past 11 (past 10 (past 9 before (λ row. row)) (λ row. row)) (λ row. row)) (λ row. row)
+
+  not-given : (fault : Fault) (d : Depth) → workDepth stretch ≡ d → depthNumber d ≢ faultNumber fault → ¬ FirstUnusable stretch fault
+  not-given fault d e other u = other (sym (ap depthNumber e) ∙ number-exactly stretch fault .1 u)
+
+  depth-told : (d : Depth) → workDepth stretch ≡ d → hasEntries (sheet .water) (sheet .speed) (sheet .cross) (sheet .wave) ≡ true
+      → NoneBefore bytes table 9 → Told bytes table (byDepth sheet level lanes (pos (wideningIn sheet)) d)
+  unfolding Row
+  depth-told (NoCut NoSquatEntry) e entries before =
+      refused (NoDepth NoSquatEntry) (number-exactly stretch NoSquatEntry .0 (ap depthNumber e)) (past-eight before) tt
+  depth-told (NoCut SiltOver) e entries before =
+      refused (NoDepth SiltOver) (number-exactly stretch SiltOver .0 (ap depthNumber e))
+      (past 13 (past-eight before) (not-given NoSquatEntry _ e (λ n. omega arith))) tt
+  depth-told (NoCut CutOver) e entries before =
+      refused (NoDepth CutOver) (number-exactly stretch CutOver .0 (ap depthNumber e))
+      (past 14 (past 13 (past-eight before) (not-given NoSquatEntry _ e (λ n. omega arith))) (not-given SiltOver _ e (λ n. omega arith))) tt
+  depth-told (Cut depth) e entries before =
+      width-told depth (subst (AsDefined stretch) e (work-as-defined stretch)) (subst (Counted stretch) e (work-counted stretch)) entries
+      (past 15
+      (past 14 (past 13 (past-eight before) (not-given NoSquatEntry _ e (λ n. omega arith))) (not-given SiltOver _ e (λ n. omega arith)))
+      (not-given CutOver _ e (λ n. omega arith)))
 
   -- 8
   entries-followed : (entries : Bool) → hasEntries (sheet .water) (sheet .speed) (sheet .cross) (sheet .wave) ≡ entries
@@ -110,7 +132,7 @@ module _ (bytes table : List ℕ) where
       → Told bytes table (if entries then byDepth sheet level lanes (pos (wideningIn sheet)) (workDepth stretch) else Refused NoWidthEntry)
   unfolding Row
   entries-followed true e (present there) before =
-      depth-told (workDepth stretch) (work-as-defined stretch) (work-counted stretch) e (past 8 before there)
+      depth-told (workDepth stretch) refl e (past 8 before there)
   entries-followed false e (missing row) before = refused NoWidthEntry row before tt
 
   past-bend-told : NoneBefore bytes table 8 → Told bytes table (pastBend sheet level lanes (pos (wideningIn sheet)))

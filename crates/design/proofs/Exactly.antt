@@ -3,7 +3,7 @@
 use mathlib.Core.Path.{_≡_, refl, ap, subst}
 use mathlib.Core.Bool.{Bool, true, false}
 use mathlib.Core.List.{List}
-use mathlib.Core.Logic.{_↔_}
+use mathlib.Core.Logic.{_↔_, _≢_}
 use Prim.Native.Nat.{ℕ, _≤_}
 use native.Mathlib.Omega.{arith}
 use borrow.Author.Tests.{ltb-true, ltb-false, ne-eqb}
@@ -12,18 +12,26 @@ use Rattle.laws.specs.Extremes.{Least}
 use Rattle.laws.proofs.Extremes.{least-only}
 use Rattle.sheet.specs.Fields.{Bad}
 use Rattle.sheet.specs.Packing.{groupsOf, Bytes}
-use Rattle.depth.specs.Depth.{Meets}
+use Rattle.depth.specs.Depth.{Meets, faultNumber}
+use Rattle.depth.specs.declared.Fault.{Fault}
+use Rattle.depth.specs.declared.Fault.the-variants.{NoSquatEntry, SiltOver, CutOver}
+use Rattle.depth.proofs.Promises.{unusable-none}
 use Rattle.design.specs.Design.{designOf}
 use Rattle.design.specs.Numbers.{reasonNumber}
 use Rattle.design.specs.Refusals.{sheetIn, levelIn, Row, NoneBefore, codeOf}
 use Rattle.design.specs.Answers.{stretchOf, FiguresAre, NamesFirst}
 use Rattle.design.specs.declared.Figures.{Figures}
 use Rattle.design.specs.declared.Reason.{Reason}
-use Rattle.design.specs.declared.Reason.the-variants.{WrongLength, SpareBitSet, BadField, WrongTable, TooFewReadings, RangeTooWide, BendTooTight, NoWidthEntry, NoCut}
+use Rattle.design.specs.declared.Reason.the-variants.{WrongLength, SpareBitSet, BadField, WrongTable, TooFewReadings, RangeTooWide, BendTooTight, NoWidthEntry, NoDepth}
 use Rattle.design.specs.declared.Answer.{Answer}
 use Rattle.design.specs.declared.Answer.the-variants.{Answered, Refused}
 use Rattle.design.proofs.OnlyFigures.{figures-only}
 use Rattle.design.proofs.Checked.{Told, refused, answered, told}
+
+three-not : (fault : Fault) → faultNumber fault ≢ 3
+three-not NoSquatEntry e = omega arith
+three-not SiltOver e = omega arith
+three-not CutOver e = omega arith
 
 module _ (bytes table : List ℕ) where
   -- a row with none before it comes no later than another that holds
@@ -34,14 +42,14 @@ module _ (bytes table : List ℕ) where
       go true e = absurd (before b (ltb-true b a e) row)
       go false e = ltb-false b a e
 
-  -- there are nine rows, from 1 on
+  -- there are rows from 1 to 15
   no-zeroth : ¬ Row bytes table 0
   unfolding Row
   no-zeroth row = row
 
-  no-tenth : (number : ℕ) → 10 ≤ number → ¬ Row bytes table number
+  no-sixteenth : (number : ℕ) → 16 ≤ number → ¬ Row bytes table number
   unfolding Row
-  no-tenth number h row =
+  no-sixteenth number h row =
       rw (
         ne-eqb number 1 (omega arith),
         ne-eqb number 2 (omega arith),
@@ -51,16 +59,18 @@ module _ (bytes table : List ℕ) where
         ne-eqb number 6 (omega arith),
         ne-eqb number 7 (omega arith),
         ne-eqb number 8 (omega arith),
-        ne-eqb number 9 (omega arith),
+        ne-eqb number 13 (omega arith),
+        ne-eqb number 14 (omega arith),
+        ne-eqb number 15 (omega arith),
       )
       at row
 
-  none-at-all : NoneBefore bytes table 10 → (number : ℕ) → ¬ Row bytes table number
-  none-at-all before number row = go (ltb number 10) refl
+  none-at-all : NoneBefore bytes table 16 → (number : ℕ) → ¬ Row bytes table number
+  none-at-all before number row = go (ltb number 16) refl
     where
-      go : (t : Bool) → ltb number 10 ≡ t → ⊥
-      go true e = before number (ltb-true number 10 e) row
-      go false e = no-tenth number (ltb-false number 10 e) row
+      go : (t : Bool) → ltb number 16 ≡ t → ⊥
+      go true e = before number (ltb-true number 16 e) row
+      go false e = no-sixteenth number (ltb-false number 16 e) row
 
   number-told : (number : ℕ) → 1 ≤ number → (a : Answer) → Told bytes table a
       → (codeOf a ≡ number) ↔ (Row bytes table number × NoneBefore bytes table number)
@@ -113,7 +123,7 @@ module _ (bytes table : List ℕ) where
       named RangeTooWide e n l = absurd (omega arith)
       named BendTooTight e n l = absurd (omega arith)
       named NoWidthEntry e n l = absurd (omega arith)
-      named NoCut e n l = absurd (omega arith)
+      named (NoDepth fault) e n l = absurd (three-not fault e)
 
   module _ (small : Bytes bytes) where
     pub number-exactly : (number : ℕ) → 1 ≤ number
@@ -131,7 +141,9 @@ module _ (bytes table : List ℕ) where
         ↔ (((number : ℕ) → ¬ Row bytes table number) × FiguresAre (sheetIn bytes) (levelIn (sheetIn bytes) table) f)
     figures-exactly f = figures-told f (designOf bytes table) (told bytes table small)
 
-    -- 9 is said only when no cut meets the definition
-    pub no-cut-only : designOf bytes table ≡ Refused NoCut → (d : ℕ) → ¬ Meets (stretchOf (sheetIn bytes) (levelIn (sheetIn bytes) table)) d
+    -- no depth is said only when no cut meets the definition
+    pub no-depth-only : (fault : Fault) → designOf bytes table ≡ Refused (NoDepth fault) → (d : ℕ) → ¬ Meets (stretchOf (sheetIn bytes) (levelIn (sheetIn bytes) table)) d
     unfolding Row
-    no-cut-only e = number-exactly 9 (omega arith) .0 (ap codeOf e) .0
+    no-depth-only NoSquatEntry e = unusable-none _ NoSquatEntry (number-exactly 13 (omega arith) .0 (ap codeOf e) .0)
+    no-depth-only SiltOver e = unusable-none _ SiltOver (number-exactly 14 (omega arith) .0 (ap codeOf e) .0)
+    no-depth-only CutOver e = unusable-none _ CutOver (number-exactly 15 (omega arith) .0 (ap codeOf e) .0)

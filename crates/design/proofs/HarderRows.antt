@@ -1,4 +1,4 @@
--- Each row that turns the easier of two sheets away turns the harder away, and what meets the harder one's depth meets the easier one's; so where
+-- Each row that turns the easier of two sheets away turns the harder away, or leaves it without a depth, and what meets the harder one's depth meets the easier one's; so where
 -- the harder is answered both are, and only their figures are left to compare.
 -- Assumes nothing.
 use mathlib.Core.Path.{_≡_, refl, sym, ap, ap₂, subst, _∙_}
@@ -23,18 +23,20 @@ use Rattle.depth.specs.Interval.{intervalOf}
 use Rattle.depth.specs.Squat.{squatReading}
 use Rattle.depth.specs.Depth.{Meets}
 use Rattle.depth.specs.Harder.{Harder as HarderDepth}
-use Rattle.depth.proofs.Promises.{meets-the-easier}
+use Rattle.depth.specs.Reasons.{FirstUnusable}
+use Rattle.depth.specs.declared.Fault.{Fault}
+use Rattle.depth.specs.declared.Fault.the-variants.{NoSquatEntry, SiltOver, CutOver}
+use Rattle.depth.proofs.Promises.{meets-the-easier, unusable-none}
 use Rattle.width.specs.Bends.{leastLengths}
 use Rattle.design.specs.Design.{lanesFor}
 use Rattle.design.specs.Numbers.{reasonNumber}
-use Rattle.design.specs.Refusals.{sheetIn, levelIn, levelFrom, Row, TightBend, EntryMissing, OffRecord}
+use Rattle.design.specs.Refusals.{sheetIn, levelIn, levelFrom, Row, NoneBefore, TightBend, EntryMissing, OffRecord}
 use Rattle.design.specs.Answers.{stretchOf, FiguresAre}
 use Rattle.design.specs.Harder.{cut, AtMost, NoEasier, no-less, refused as harder-refused}
 use Rattle.design.specs.declared.Figures.{Figures}
 use Rattle.design.specs.declared.Reason.{Reason}
-use Rattle.design.specs.declared.Reason.the-variants.{WrongLength, SpareBitSet, BadField, WrongTable, TooFewReadings, RangeTooWide, BendTooTight, NoWidthEntry, NoCut}
+use Rattle.design.specs.declared.Reason.the-variants.{WrongLength, SpareBitSet, BadField, WrongTable, TooFewReadings, RangeTooWide, BendTooTight, NoWidthEntry, NoDepth}
 use Rattle.design.specs.declared.Answer.{Answer}
-use Rattle.design.proofs.Zeros.{reason-within}
 use Rattle.design.proofs.Checked.{Told, refused, answered}
 use Rattle.design.proofs.Compared.{hardens, Compared}
 
@@ -103,19 +105,25 @@ module _ (easy hard table : List ℕ) (read : readOf easy ≡ Good (sheetIn easy
   meets-too : (d : ℕ) → Meets (stretchOf s' (levelIn s' table)) d → Meets (stretchOf s (levelIn s table)) d
   meets-too = meets-the-easier _ _ depth-harder speed-read
 
+  -- no depth, for whichever reason, stays no depth
+  no-depth-too : (fault : Fault) → FirstUnusable (stretchOf s (levelIn s table)) fault → (d : ℕ) → ¬ Meets (stretchOf s' (levelIn s' table)) d
+  no-depth-too fault u d m = unusable-none _ fault u d (meets-too d m)
+
   module _ (small : Bytes easy) where
-    -- each row that turns the easier sheet away turns the harder away
-    row-too : (r : Reason) → Row easy table (reasonNumber r) → Row hard table (reasonNumber r)
+    -- each row that turns the easier sheet away turns the harder away, or leaves it without a depth
+    turned-away : (r : Reason) → Row easy table (reasonNumber r) → NoneBefore hard table 16 → (d : ℕ) → ¬ Meets (stretchOf s' (levelIn s' table)) d
     unfolding Row
-    row-too WrongLength row = absurd (row (good-exactly easy small .0 (s, read) .0))
-    row-too SpareBitSet row = absurd (good-exactly easy small .0 (s, read) .1 row)
-    row-too (BadField k) row = absurd (good-exactly easy small .0 (s, read) .2 (row .field) (row .bad))
-    row-too WrongTable row = off-record-too _ row
-    row-too TooFewReadings row = off-record-too _ row
-    row-too RangeTooWide row = off-record-too _ row
-    row-too BendTooTight row = tight-too row
-    row-too NoWidthEntry row = missing-too row
-    row-too NoCut row = λ d m. row d (meets-too d m)
+    turned-away WrongLength row none = absurd (row (good-exactly easy small .0 (s, read) .0))
+    turned-away SpareBitSet row none = absurd (good-exactly easy small .0 (s, read) .1 row)
+    turned-away (BadField k) row none = absurd (good-exactly easy small .0 (s, read) .2 (row .field) (row .bad))
+    turned-away WrongTable row none = absurd (none 4 (omega arith) (off-record-too _ row))
+    turned-away TooFewReadings row none = absurd (none 5 (omega arith) (off-record-too _ row))
+    turned-away RangeTooWide row none = absurd (none 6 (omega arith) (off-record-too _ row))
+    turned-away BendTooTight row none = absurd (none 7 (omega arith) (tight-too row))
+    turned-away NoWidthEntry row none = absurd (none 8 (omega arith) (missing-too row))
+    turned-away (NoDepth NoSquatEntry) row none = no-depth-too NoSquatEntry row
+    turned-away (NoDepth SiltOver) row none = no-depth-too SiltOver row
+    turned-away (NoDepth CutOver) row none = no-depth-too CutOver row
 
     -- so only the figures are left to compare
     pub no-easier : (figure : Figures → ℤ)
@@ -124,7 +132,7 @@ module _ (easy hard table : List ℕ) (read : readOf easy ≡ Good (sheetIn easy
     unfolding Row
     no-easier figure at-most a b t (refused r row before names) = harder-refused
     no-easier figure at-most a b (refused r row before names) (answered g none are) =
-        absurd (none (reasonNumber r) (omega (arith, reason-within r)) (row-too r row))
+        absurd (turned-away r row none (g .cut .0) (are .cut .holds))
     no-easier figure at-most a b (answered f none are) (answered g none' are') = no-less (at-most f g (none' 8 (omega arith)) are are')
 
   pub cut-rises : (f g : Figures) → ¬ EntryMissing s' → FiguresAre s (levelIn s table) f → FiguresAre s' (levelIn s' table) g → AtMost (cut f) (cut g)

@@ -5,6 +5,7 @@ use mathlib.Core.Path.{_≡_, refl}
 use mathlib.Core.List.{List, [], _∷_, map}
 use mathlib.Core.Logic.{_↔_, _≢_}
 use Prim.Native.Nat.{ℕ, _≤_}
+use native.Mathlib.Omega.{arith}
 use lib.IntN.{ℤ, pos}
 use lib.ListN.{length, take, replicate}
 use Rattle.laws.specs.Extremes.{Least}
@@ -23,19 +24,20 @@ use Rattle.gauge.specs.declared.LevelRead.{LevelRead}
 use Rattle.gauge.specs.declared.LevelRead.the-variants.{Found as LevelFound, WrongTable as TableWrong}
 use Rattle.gauge.proofs.Promises.{refused-changes-nothing}
 use Rattle.depth.specs.Depth.{Meets}
+use Rattle.depth.specs.declared.Fault.{Fault}
 use Rattle.design.specs.Design.{levelFor, designAt, designOf}
 use Rattle.design.specs.Numbers.{reasonNumber, reasonField, laneNumber, numbersOf}
-use Rattle.design.specs.Refusals.{sheetIn, levelIn, Row, NoneBefore, codeOf, fieldOf}
+use Rattle.design.specs.Refusals.{sheetIn, levelIn, Row, NoneBefore, codeOf, fieldOf, CodeKnown}
 use Rattle.design.specs.Answers.{stretchOf, FiguresAre}
 use Rattle.design.specs.declared.Figures.{Figures}
 use Rattle.design.specs.declared.Reason.{Reason}
-use Rattle.design.specs.declared.Reason.the-variants.{BadField, NoCut}
+use Rattle.design.specs.declared.Reason.the-variants.{BadField, NoDepth}
 use Rattle.design.specs.declared.Answer.{Answer}
 use Rattle.design.specs.declared.Answer.the-variants.{Answered, Refused}
 use Rattle.design.proofs.Zeros as the-numbers
 use Rattle.design.proofs.Readings.{sheet-read, level-read}
 use Rattle.design.proofs.OnlyFigures.{figures-only}
-use Rattle.design.proofs.Exactly.{number-exactly, zero-exactly, field-exactly, figures-exactly, no-cut-only}
+use Rattle.design.proofs.Exactly.{number-exactly, zero-exactly, field-exactly, figures-exactly, no-depth-only as no-depth-said}
 use Rattle.design.specs.Harder.{hardenings, NeverEasier, Each, none, _&_}
 use Rattle.design.proofs.Harder.{deepens, broadens}
 use Rattle.design.proofs.Starred as the-starred
@@ -46,9 +48,13 @@ module _ (bytes table : List ℕ) where
   pub sheet-is-read : Bytes bytes → NoneBefore bytes table 4 → readOf bytes ≡ Good (sheetIn bytes)
   sheet-is-read = sheet-read bytes table
 
-  -- Nothing is left for the caller to check first: any bytes over any table are answered, or refused by one of nine numbers.
-  pub code-at-most-nine : codeOf (designOf bytes table) ≤ 9
-  code-at-most-nine = the-numbers.code-within (designOf bytes table)
+  -- Nothing is left for the caller to check first: any bytes over any table are answered, or refused by 1 to 8, 13, 14 or 15.
+  pub code-is-known : CodeKnown (codeOf (designOf bytes table))
+  code-is-known = the-numbers.code-known (designOf bytes table)
+
+  -- 9 is retired.
+  pub nine-never : codeOf (designOf bytes table) ≢ 9
+  nine-never = the-numbers.code-never (designOf bytes table) 9 (omega arith) (omega arith)
 
 -- A refused sheet yields its number, the place of a bad field, and zeros.
 pub refused-figures-zero : (r : Reason) → numbersOf (Refused r) ≡ pos (reasonNumber r) ∷ pos (reasonField r) ∷ replicate 11 (pos 0)
@@ -86,9 +92,9 @@ module _ (bytes table : List ℕ) (small : Bytes bytes) where
       → Least (Meets (stretchOf (sheetIn bytes) (levelIn (sheetIn bytes) table))) (f .cut .0)
   least-cut f e = answered-exactly bytes table small f .0 e .1 .cut
 
-  -- "No depth" is said only when none up to 30 m does.
-  pub no-depth-only : designOf bytes table ≡ Refused NoCut → (d : ℕ) → ¬ Meets (stretchOf (sheetIn bytes) (levelIn (sheetIn bytes) table)) d
-  no-depth-only = no-cut-only bytes table small
+  -- "No depth", for any of the three reasons, is said only when none up to 30 m does.
+  pub no-depth-only : (fault : Fault) → designOf bytes table ≡ Refused (NoDepth fault) → (d : ℕ) → ¬ Meets (stretchOf (sheetIn bytes) (levelIn (sheetIn bytes) table)) d
+  no-depth-only = no-depth-said bytes table small
 
 -- Over one table, of two sheets with every field in range that differ in one of these figures and come to the same lanes, the one with the
 -- greater figure is answered only where the other is, with a cut that is no shallower (draft, length, speed, wave allowance, silting rate, soil)

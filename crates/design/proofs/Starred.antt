@@ -161,7 +161,7 @@ lines =
     ∷ answer 1 1156 1156 14400 0 1 0 0 1
     ∷ answer 1 1171 1171 14400 0 2 0 0 1
     ∷ answer 1 1220 1220 14400 0 1 0 0 1
-    ∷ refusal 9
+    ∷ refusal 13
     ∷ answer 1 1170 1170 14400 1915 2 0 0 1
     ∷ answer 1 1170 1170 14400 0 2 0 0 1
     ∷ refusal 7

@@ -9,8 +9,9 @@ use Rattle.sheet.specs.declared.Sheet.{Sheet}
 use Rattle.lanes.specs.declared.Lanes.{Lanes}
 use Rattle.depth.specs.Worksheet.{workDepth}
 use Rattle.depth.specs.declared.Stretch.{Stretch as DepthStretch}
+use Rattle.depth.specs.declared.Fault.{Fault}
 use Rattle.depth.specs.declared.Depth.{Depth}
-use Rattle.depth.specs.declared.Depth.the-variants.{Cut, NoCut as NoDepth}
+use Rattle.depth.specs.declared.Depth.the-variants.{Cut, NoCut}
 use Rattle.depth.specs.declared.DepthFigures.{DepthFigures}
 use Rattle.width.specs.Bands.{hasEntries}
 use Rattle.width.specs.Bends.{bendOf}
@@ -22,7 +23,7 @@ use Rattle.width.specs.declared.WidthFound.{WidthFound}
 use Rattle.width.specs.declared.WidthFound.the-variants.{Found as WidthOf, NoEntry}
 use Rattle.design.specs.Design.{depthStretch, widthStretch, figuresOf, byWidth, atDepth, byDepth, pastBend, byBend, lanesFor, atLevel}
 use Rattle.design.specs.declared.Figures.{Figures}
-use Rattle.design.specs.declared.Reason.the-variants.{BendTooTight, NoWidthEntry, NoCut}
+use Rattle.design.specs.declared.Reason.the-variants.{BendTooTight, NoWidthEntry, NoDepth}
 use Rattle.design.specs.declared.Answer.{Answer}
 use Rattle.design.specs.declared.Answer.the-variants.{Answered, Refused}
 
@@ -52,9 +53,9 @@ module _ (s : Sheet) (level : Level) (lanes : Lanes) (widening : ℤ) (entries :
     unfolding pastBend
     with-cut depth r c g = rw (sym is ∙ e) (g ∙ ap (byDepth s level lanes widening) (sym c ∙ worked ∙ ap workDepth of))
 
-    pub without-cut : d ≡ NoDepth → Refused NoCut ≡ pastBend s level lanes widening
+    pub without-cut : (fault : Fault) → d ≡ NoCut fault → Refused (NoDepth fault) ≡ pastBend s level lanes widening
     unfolding pastBend
-    without-cut c = rw (sym is ∙ e) (ap (byDepth s level lanes widening) (sym c ∙ worked ∙ ap workDepth of))
+    without-cut fault c = rw (sym is ∙ e) (ap (byDepth s level lanes widening) (sym c ∙ worked ∙ ap workDepth of))
 
 -- at a level
 module _ (s : Sheet) (level : Level) (lanes : Lanes) (bend : Bend) (ways : lanes ≡ lanesFor s)

@@ -2,18 +2,21 @@
 -- Assumes nothing.
 use mathlib.Core.Path.{_≡_, refl, sym, ap₂, _∙_}
 use mathlib.Core.List.{[], _∷_}
-use mathlib.Core.Logic.{_≢_}
+use mathlib.Core.Logic.{_⊎_, inl, inr, _≢_}
 use Prim.Native.Nat.{ℕ, _≤_}
 use native.Mathlib.Omega.{arith}
 use lib.IntN.{pos}
 use lib.ListN.{length, take, replicate}
 use Rattle.laws.specs.Choice.{if_then_else_, _=ᵇ_}
 use Rattle.datum.specs.Datum.{levelOf}
+use Rattle.depth.specs.Depth.{faultNumber}
+use Rattle.depth.specs.declared.Fault.{Fault}
+use Rattle.depth.specs.declared.Fault.the-variants.{NoSquatEntry, SiltOver, CutOver}
 use Rattle.design.specs.Numbers.{reasonNumber, reasonField, laneNumber, numbersOf}
-use Rattle.design.specs.Refusals.{codeOf, fieldOf}
+use Rattle.design.specs.Refusals.{codeOf, fieldOf, CodeKnown}
 use Rattle.design.specs.declared.Figures.{Figures}
 use Rattle.design.specs.declared.Reason.{Reason}
-use Rattle.design.specs.declared.Reason.the-variants.{WrongLength, SpareBitSet, BadField, WrongTable, TooFewReadings, RangeTooWide, BendTooTight, NoWidthEntry, NoCut}
+use Rattle.design.specs.declared.Reason.the-variants.{WrongLength, SpareBitSet, BadField, WrongTable, TooFewReadings, RangeTooWide, BendTooTight, NoWidthEntry, NoDepth}
 use Rattle.design.specs.declared.Answer.{Answer}
 use Rattle.design.specs.declared.Answer.the-variants.{Answered, Refused}
 
@@ -33,21 +36,34 @@ unfolding numbersOf
 code-and-field (Answered f) = refl
 code-and-field (Refused r) = refl
 
--- nine numbers turn a sheet away
-pub reason-within : (r : Reason) → reasonNumber r ≤ 9
-reason-within WrongLength = omega arith
-reason-within SpareBitSet = omega arith
-reason-within (BadField k) = omega arith
-reason-within WrongTable = omega arith
-reason-within TooFewReadings = omega arith
-reason-within RangeTooWide = omega arith
-reason-within BendTooTight = omega arith
-reason-within NoWidthEntry = omega arith
-reason-within NoCut = omega arith
+-- the numbers that turn a design away: 1 to 8, 13, 14 and 15
+fault-known : (fault : Fault) → (13 ≤ faultNumber fault) × (faultNumber fault ≤ 15)
+fault-known NoSquatEntry = omega arith
+fault-known SiltOver = omega arith
+fault-known CutOver = omega arith
 
-pub code-within : (a : Answer) → codeOf a ≤ 9
-code-within (Answered f) = omega arith
-code-within (Refused r) = reason-within r
+reason-known : (r : Reason) → CodeKnown (reasonNumber r)
+reason-known WrongLength = inl (omega arith)
+reason-known SpareBitSet = inl (omega arith)
+reason-known (BadField k) = inl (omega arith)
+reason-known WrongTable = inl (omega arith)
+reason-known TooFewReadings = inl (omega arith)
+reason-known RangeTooWide = inl (omega arith)
+reason-known BendTooTight = inl (omega arith)
+reason-known NoWidthEntry = inl (omega arith)
+reason-known (NoDepth fault) = inr (fault-known fault)
+
+pub code-known : (a : Answer) → CodeKnown (codeOf a)
+code-known (Answered f) = inl (omega arith)
+code-known (Refused r) = reason-known r
+
+-- so 9, 10, 11 and 12 are given by no design
+pub code-never : (a : Answer) (number : ℕ) → 9 ≤ number → number ≤ 12 → codeOf a ≢ number
+code-never a number from to e = go (code-known a)
+  where
+    go : ¬ CodeKnown (codeOf a)
+    go (inl low) = omega arith
+    go (inr high) = omega arith
 
 -- the field is 0 unless the number is 3
 field-zero : (r : Reason) → reasonNumber r ≢ 3 → reasonField r ≡ 0
@@ -59,7 +75,7 @@ field-zero TooFewReadings n = refl
 field-zero RangeTooWide n = refl
 field-zero BendTooTight n = refl
 field-zero NoWidthEntry n = refl
-field-zero NoCut n = refl
+field-zero (NoDepth fault) n = refl
 
 pub field-unless : (a : Answer) → codeOf a ≢ 3 → fieldOf a ≡ 0
 field-unless (Answered f) n = refl
@@ -80,7 +96,9 @@ reasonFrom number field =
     (if number =ᵇ 5 then TooFewReadings else
     (if number =ᵇ 6 then RangeTooWide else
     (if number =ᵇ 7 then BendTooTight else
-    (if number =ᵇ 8 then NoWidthEntry else NoCut)))))))
+    (if number =ᵇ 8 then NoWidthEntry else
+    (if number =ᵇ 13 then NoDepth NoSquatEntry else
+    (if number =ᵇ 14 then NoDepth SiltOver else NoDepth CutOver)))))))))
 
 reason-back : (r : Reason) → reasonFrom (reasonNumber r) (reasonField r) ≡ r
 reason-back WrongLength = refl
@@ -91,7 +109,9 @@ reason-back TooFewReadings = refl
 reason-back RangeTooWide = refl
 reason-back BendTooTight = refl
 reason-back NoWidthEntry = refl
-reason-back NoCut = refl
+reason-back (NoDepth NoSquatEntry) = refl
+reason-back (NoDepth SiltOver) = refl
+reason-back (NoDepth CutOver) = refl
 
 pub one-reason : (r t : Reason) → reasonNumber r ≡ reasonNumber t → reasonField r ≡ reasonField t → r ≡ t
 one-reason r t n f = sym (reason-back r) ∙ ap₂ reasonFrom n f ∙ reason-back t

@@ -19,7 +19,7 @@ use Rattle.class.specs.Classes.{shipClass, widthClass, depthClass}
 use Rattle.design.specs.Design.{depthStretch, widthStretch, lanesFor}
 use Rattle.design.specs.declared.Figures.{Figures}
 use Rattle.design.specs.declared.Reason.{Reason}
-use Rattle.design.specs.declared.Reason.the-variants.{WrongLength, SpareBitSet, BadField, WrongTable, TooFewReadings, RangeTooWide, BendTooTight, NoWidthEntry, NoCut}
+use Rattle.design.specs.declared.Reason.the-variants.{WrongLength, SpareBitSet, BadField, WrongTable, TooFewReadings, RangeTooWide, BendTooTight, NoWidthEntry, NoDepth}
 
 -- the stretch whose depth a sheet asks for at a level, in the lanes of the lane rule
 abbrev pub stretchOf : Sheet → Level → DepthStretch
@@ -60,4 +60,4 @@ NamesFirst bytes TooFewReadings = Unit {0}
 NamesFirst bytes RangeTooWide = Unit {0}
 NamesFirst bytes BendTooTight = Unit {0}
 NamesFirst bytes NoWidthEntry = Unit {0}
-NamesFirst bytes NoCut = Unit {0}
+NamesFirst bytes (NoDepth fault) = Unit {0}

@@ -21,7 +21,7 @@ use Rattle.depth.specs.Interval.{intervalOf}
 use Rattle.depth.specs.Worksheet.{workDepth}
 use Rattle.depth.specs.declared.Stretch.{Stretch as DepthStretch}
 use Rattle.depth.specs.declared.Depth.{Depth}
-use Rattle.depth.specs.declared.Depth.the-variants.{Cut, NoCut as NoDepth}
+use Rattle.depth.specs.declared.Depth.the-variants.{Cut, NoCut}
 use Rattle.depth.specs.declared.DepthFigures.{DepthFigures}
 use Rattle.width.specs.Bands.{hasEntries}
 use Rattle.width.specs.Bends.{bendOf}
@@ -33,7 +33,7 @@ use Rattle.width.specs.declared.WidthFound.{WidthFound}
 use Rattle.width.specs.declared.WidthFound.the-variants.{Found as WidthOf, NoEntry}
 use Rattle.class.specs.Classes.{shipClass, widthClass, depthClass}
 use Rattle.design.specs.declared.Figures.{Figures}
-use Rattle.design.specs.declared.Reason.the-variants.{WrongLength, SpareBitSet, BadField, WrongTable, TooFewReadings, RangeTooWide, BendTooTight, NoWidthEntry, NoCut}
+use Rattle.design.specs.declared.Reason.the-variants.{WrongLength, SpareBitSet, BadField, WrongTable, TooFewReadings, RangeTooWide, BendTooTight, NoWidthEntry, NoDepth}
 use Rattle.design.specs.declared.Answer.{Answer}
 use Rattle.design.specs.declared.Answer.the-variants.{Answered, Refused}
 
@@ -100,10 +100,10 @@ byWidth s level lanes widening depth NoEntry = Refused NoWidthEntry
 unfoldable pub atDepth : Sheet → Level → Lanes → ℤ → DepthFigures → Answer
 atDepth s level lanes widening depth = byWidth s level lanes widening depth (widthOf (widthStretch s lanes (depth .sailing)))
 
--- 9: no cut
+-- 13, 14, 15: no depth, for the depth's own reason
 abbrev pub byDepth : Sheet → Level → Lanes → ℤ → Depth → Answer
 byDepth s level lanes widening (Cut depth) = atDepth s level lanes widening depth
-byDepth s level lanes widening NoDepth = Refused NoCut
+byDepth s level lanes widening (NoCut fault) = Refused (NoDepth fault)
 
 -- 8: no width entry, which is known before the depth is
 unfoldable pub pastBend : Sheet → Level → Lanes → ℤ → Answer

@@ -3,11 +3,12 @@ use Prim.Native.Nat.{ℕ}
 use mathlib.Core.List.{List, [], _∷_}
 use lib.IntN.{ℤ, pos}
 use Rattle.datum.specs.Datum.{levelOf}
+use Rattle.depth.specs.Depth.{faultNumber}
 use Rattle.lanes.specs.declared.Lanes.{Lanes}
 use Rattle.lanes.specs.declared.Lanes.the-variants.{One, Two}
 use Rattle.design.specs.declared.Figures.{Figures}
 use Rattle.design.specs.declared.Reason.{Reason}
-use Rattle.design.specs.declared.Reason.the-variants.{WrongLength, SpareBitSet, BadField, WrongTable, TooFewReadings, RangeTooWide, BendTooTight, NoWidthEntry, NoCut}
+use Rattle.design.specs.declared.Reason.the-variants.{WrongLength, SpareBitSet, BadField, WrongTable, TooFewReadings, RangeTooWide, BendTooTight, NoWidthEntry, NoDepth}
 use Rattle.design.specs.declared.Answer.{Answer}
 use Rattle.design.specs.declared.Answer.the-variants.{Answered, Refused}
 
@@ -21,7 +22,7 @@ reasonNumber TooFewReadings = 5
 reasonNumber RangeTooWide = 6
 reasonNumber BendTooTight = 7
 reasonNumber NoWidthEntry = 8
-reasonNumber NoCut = 9
+reasonNumber (NoDepth fault) = faultNumber fault
 
 -- the field, 0 unless the number is 3
 abbrev pub reasonField : Reason → ℕ
@@ -33,7 +34,7 @@ reasonField TooFewReadings = 0
 reasonField RangeTooWide = 0
 reasonField BendTooTight = 0
 reasonField NoWidthEntry = 0
-reasonField NoCut = 0
+reasonField (NoDepth fault) = 0
 
 -- how many lanes
 abbrev pub laneNumber : Lanes → ℕ

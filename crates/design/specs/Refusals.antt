@@ -2,7 +2,7 @@
 use mathlib.Core.Path.{_≡_}
 use mathlib.Core.List.{List}
 use mathlib.Core.Logic.{_⊎_, _≢_}
-use Prim.Native.Nat.{ℕ, _*_, _<_}
+use Prim.Native.Nat.{ℕ, _*_, _≤_, _<_}
 use lib.ListN.{length}
 use Rattle.laws.specs.Choice.{if_then_else_, _=ᵇ_}
 use Rattle.datum.specs.declared.Level.{Level}
@@ -14,7 +14,9 @@ use Rattle.sheet.specs.declared.LevelSource.{LevelSource}
 use Rattle.sheet.specs.declared.LevelSource.the-variants.{FromRecord, Given}
 use Rattle.gauge.specs.Frequency.{heldLevel}
 use Rattle.gauge.specs.Designing.{rangeOf, frequencyTaken, TableUnfit, RecordShort, RangeWide}
-use Rattle.depth.specs.Depth.{Meets}
+use Rattle.depth.specs.Reasons.{FirstUnusable}
+use Rattle.depth.specs.declared.Fault.{Fault}
+use Rattle.depth.specs.declared.Fault.the-variants.{NoSquatEntry, SiltOver, CutOver}
 use Rattle.width.specs.Bends.{leastLengths}
 use Rattle.design.specs.Design.{depthStretch, lanesFor}
 use Rattle.design.specs.Numbers.{reasonNumber, reasonField}
@@ -57,11 +59,11 @@ pub record EntryMissing (s : Sheet) : Type 0 where
   pub sheltered : s .water ≡ 1
   pub beyond : (15 < s .cross .0) ⊎ (100 < s .wave)
 
--- 9: no cut as defined
-abbrev pub NoneMeets : Sheet → Level → Type 0
-NoneMeets s level = (d : ℕ) → ¬ Meets (depthStretch s level (lanesFor s)) d
+-- 13, 14, 15: no depth, as the first column that the worksheet cannot use has no squat entry, silt over 120, or a cut over 3,000
+abbrev pub NoDepthBy : Fault → Sheet → Level → Type 0
+NoDepthBy fault s level = FirstUnusable (depthStretch s level (lanesFor s)) fault
 
--- the row of each number
+-- the row of each number that turns a design away; 9 is retired, and 10, 11 and 12 are of other calls
 unfoldable pub Row : List ℕ → List ℕ → ℕ → Type 0
 Row bytes table number =
     if number =ᵇ 1 then NotSheetLong bytes else
@@ -72,7 +74,9 @@ Row bytes table number =
     (if number =ᵇ 6 then OffRecord (sheetIn bytes .level) (RangeWide table) else
     (if number =ᵇ 7 then TightBend (sheetIn bytes) else
     (if number =ᵇ 8 then EntryMissing (sheetIn bytes) else
-    (if number =ᵇ 9 then NoneMeets (sheetIn bytes) (levelIn (sheetIn bytes) table) else ⊥))))))))
+    (if number =ᵇ 13 then NoDepthBy NoSquatEntry (sheetIn bytes) (levelIn (sheetIn bytes) table) else
+    (if number =ᵇ 14 then NoDepthBy SiltOver (sheetIn bytes) (levelIn (sheetIn bytes) table) else
+    (if number =ᵇ 15 then NoDepthBy CutOver (sheetIn bytes) (levelIn (sheetIn bytes) table) else ⊥))))))))))
 
 -- no row that is checked before a number holds
 abbrev pub NoneBefore : List ℕ → List ℕ → ℕ → Type 0
@@ -82,6 +86,10 @@ NoneBefore bytes table number = (earlier : ℕ) → earlier < number → ¬ Row 
 abbrev pub codeOf : Answer → ℕ
 codeOf (Answered f) = 0
 codeOf (Refused r) = reasonNumber r
+
+-- a code that a design may have: 0 to 8, 13, 14 and 15
+abbrev pub CodeKnown : ℕ → Type 0
+CodeKnown code = (code ≤ 8) ⊎ ((13 ≤ code) × (code ≤ 15))
 
 abbrev pub fieldOf : Answer → ℕ
 fieldOf (Answered f) = 0

@@ -61,7 +61,7 @@ fn past_bend(sheet: Sheet, level: Level, lanes: Lanes, widening: i32) -> Answer
     let depth = depth::work_depth(working::depth_stretch(sheet, level, lanes));
     match depth {
         Depth::Cut(found) => at_depth(sheet, level, lanes, widening, found),
-        Depth::NoCut => Answer::Refused(Reason::NoCut),
+        Depth::NoCut(fault) => Answer::Refused(Reason::NoDepth(fault)),
     }
 }
 

@@ -6,6 +6,7 @@ ghost use Rattle.design.specs.Refusals.{codeOf};
 use datum::BelowChart;
 use datum::BelowLevel;
 use datum::Level;
+use depth::Fault;
 use gauge::LevelRead;
 use lanes::Lanes;
 use sheet::SheetRead;
@@ -24,7 +25,7 @@ pub enum Reason {
     RangeTooWide,
     BendTooTight,
     NoWidthEntry,
-    NoCut,
+    NoDepth(Fault),
 }
 
 // The figures of a sheet that is answered, in cm.

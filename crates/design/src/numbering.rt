@@ -21,7 +21,7 @@ pub fn reason_number(reason: Reason) -> u8
         Reason::RangeTooWide => 6,
         Reason::BendTooTight => 7,
         Reason::NoWidthEntry => 8,
-        Reason::NoCut => 9,
+        Reason::NoDepth(fault) => depth::fault_number(fault),
     }
 }
 
@@ -37,7 +37,7 @@ fn reason_field(reason: Reason) -> u8
         Reason::RangeTooWide => 0,
         Reason::BendTooTight => 0,
         Reason::NoWidthEntry => 0,
-        Reason::NoCut => 0,
+        Reason::NoDepth(_) => 0,
     }
 }
 

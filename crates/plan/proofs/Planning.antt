@@ -15,7 +15,7 @@ use Rattle.laws.specs.Choice.{if_then_else_}
 use Rattle.design.specs.Numbers.{numbersOf}
 use Rattle.design.specs.Refusals.{codeOf}
 use Rattle.design.specs.declared.Answer.{Answer}
-use Rattle.design.proofs.Zeros.{code-within}
+use Rattle.design.proofs.Zeros.{code-never}
 use Rattle.design.proofs.Promises.{thirteen-numbers}
 use Rattle.plan.specs.Words.{bytesOfNumbers}
 use Rattle.plan.specs.Plan.{needed, planned, planNumber, planPlace}
@@ -41,7 +41,7 @@ module _ (sheet place : List ℕ) where
       go : (b : Bool) → ltb (length place) needed ≡ b → (if b then 12 else codeOf (planned sheet)) ≡ 12 → length place < needed
       go true p e = ltb-true _ _ p
       -- no design is refused by 12
-      go false p e = absurd (omega (arith, code-within (planned sheet)))
+      go false p e = absurd (code-never (planned sheet) 12 (omega arith) (omega arith) e)
 
   pub code-with-room : needed ≤ length place → planNumber sheet place ≡ codeOf (planned sheet)
   unfolding planNumber

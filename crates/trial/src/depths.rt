@@ -27,7 +27,7 @@ fn store(place: &mut [u32], at: usize, figure: u64) {
     places::put(place, at, (figure % 4294967296) as u32);
 }
 
-// 0, cut, sailing depth and columns; or 9.
+// 0, cut, sailing depth and columns; or the number of its reason.
 #[no_mangle]
 pub extern "C" fn trial_depth(figures: &[u32], place: &mut [u32]) -> u32 {
     let answer = depth::work_depth(stretch_of(figures));
@@ -38,7 +38,7 @@ pub extern "C" fn trial_depth(figures: &[u32], place: &mut [u32]) -> u32 {
             store(&mut *place, 2, found.columns as u64);
             0
         }
-        Depth::NoCut => 9,
+        Depth::NoCut(fault) => depth::fault_number(fault) as u32,
     }
 }
 

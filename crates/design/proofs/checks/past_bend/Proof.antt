@@ -34,8 +34,8 @@ enum-known-depth c = search needs
 at-depth-requires : tie.Need-at-depth-requires
 at-depth-requires c κs = search needs
 
-enum-told : tie.Need-enum-told
-enum-told c = search needs
+enum-known-depth-2 : tie.Need-enum-known-depth-2
+enum-known-depth-2 c = search needs
 
 returns-2 : tie.Need-returns-2
 returns-2 c =
@@ -50,10 +50,10 @@ returns-2 c =
 
 returns-3 : tie.Need-returns-3
 returns-3 c =
-    let worked = c .before .before in
+    let worked = c .before .before .before in
     let else1 = worked .before .before in
     without-cut _ _ _ _ _ (else1 .before .has-entries .ensures) (not-false _ (else1 .if1 .left)) _ _ (worked .work-depth .ensures)
-    (worked .before .depth-stretch .ensures) (c .enum-told .given .1)
+    (worked .before .depth-stretch .ensures) (c .before .depth2 .given .0 .0) (c .before .depth2 .given .1)
 
 pub past-bend-spec : {M : Type 1} → statement M
 past-bend-spec =
@@ -65,6 +65,6 @@ past-bend-spec =
     work-depth-requires
     enum-known-depth
     at-depth-requires
-    enum-told
+    enum-known-depth-2
     returns-2
     returns-3)
