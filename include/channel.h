@@ -33,7 +33,7 @@ enum channel_number {
     CHANNEL_NUMBERS
 };
 
-/* The codes that the call can give. There is no level table here, so a sheet whose level comes off the record gets 4. */
+/* The codes that the call can give; 9 is retired. There is no level table here, so a sheet whose level comes off the record gets 4. */
 enum channel_code {
     CHANNEL_ANSWERED = 0,
     CHANNEL_WRONG_LENGTH = 1,     /* not 28 bytes */
@@ -42,8 +42,10 @@ enum channel_code {
     CHANNEL_NO_TABLE = 4,         /* a level off the record */
     CHANNEL_BEND_TOO_TIGHT = 7,
     CHANNEL_NO_WIDTH_ENTRY = 8,   /* cross current or wave over what sheltered water has */
-    CHANNEL_NO_CUT = 9,           /* none up to 30 m */
-    CHANNEL_PLACE_TOO_SMALL = 12  /* place_length under 52; nothing is written */
+    CHANNEL_PLACE_TOO_SMALL = 12, /* place_length under 52; nothing is written */
+    CHANNEL_NO_SQUAT_ENTRY = 13,  /* no depth: the first column that the worksheet cannot use has no squat entry, */
+    CHANNEL_SILT_OVER = 14,       /* or silt over 120 cm, */
+    CHANNEL_CUT_OVER = 15         /* or a cut over 30 m */
 };
 
 /* Plans the sheet. 12 is tested first. Otherwise the code is returned and the first 52 bytes of place get the numbers;

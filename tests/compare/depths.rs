@@ -12,7 +12,7 @@ const NONE: i64 = 9_999;
 /// Number, cut, sailing depth and columns tried.
 fn by_second(inputs: &Inputs) -> [u32; 4] {
     let Some(cut) = depth::cut(inputs) else {
-        return [9, 0, 0, 0];
+        return [depth::reason(inputs), 0, 0, 0];
     };
     let column = depth::column_of(inputs, cut);
     let s = depth::sailing_depth(inputs, column).expect("a cut's column has an entry");
@@ -71,19 +71,13 @@ fn tries_by_proved(handles: &mut Handles, inputs: &Inputs) -> Vec<[i64; 6]> {
     tries.filter(|line| line[1] != NONE).collect()
 }
 
-/// Where the definition stops the worksheet at a limit, the second program goes on; up to there they agree.
-fn first_stop(tries: &[[i64; 6]]) -> usize {
-    let over = |line: &[i64; 6]| line[3] > 120 || line[4] > 3_000;
-    tries.iter().position(over).map_or(tries.len(), |k| k + 1)
-}
-
 fn both(handles: &mut Handles, report: &mut Report, inputs: &Inputs) {
     let proved = by_proved(handles, inputs);
     report.case(proved, by_second(inputs), || format!("{inputs:?}"));
-    let mut second = tries_by_second(inputs);
-    second.truncate(first_stop(&second));
     let proved = tries_by_proved(handles, inputs);
-    report.case(proved, second, || format!("worksheet of {inputs:?}"));
+    report.case(proved, tries_by_second(inputs), || {
+        format!("worksheet of {inputs:?}")
+    });
 }
 
 fn some_inputs(rng: &mut Random) -> Inputs {

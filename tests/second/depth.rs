@@ -144,11 +144,11 @@ pub struct Try {
     pub falls_in: Column,
 }
 
-/// The tries in order, and the cut of the last if the worksheet ends in one.
+/// The tries in order, and what the worksheet ends in: the cut, or the number that says why there is none.
 #[derive(Clone, Debug, PartialEq, Eq)]
 pub struct Worksheet {
     pub tries: Vec<Try>,
-    pub cut: Option<i64>,
+    pub cut: Result<i64, u32>,
 }
 
 impl Worksheet {
@@ -158,6 +158,7 @@ impl Worksheet {
     }
 }
 
+/// A column without an entry has no figures.
 fn try_column(inputs: &Inputs, column: Column) -> Option<Try> {
     let s = sailing_depth(inputs, column)?;
     let silt = z4(inputs, s);
@@ -171,19 +172,34 @@ fn try_column(inputs: &Inputs, column: Column) -> Option<Try> {
     })
 }
 
+/// What the worksheet comes to in a column: a cut, a number, or nothing yet.
+fn ends(tried: Option<Try>) -> Option<Result<i64, u32>> {
+    match tried {
+        None => Some(Err(13)),
+        Some(tried) if tried.z4 > 120 => Some(Err(14)),
+        Some(tried) if tried.figure > 3_000 => Some(Err(15)),
+        Some(tried) if tried.falls_in == tried.column => Some(Ok(tried.figure)),
+        Some(_) => None,
+    }
+}
+
 /// "The worksheet begins in column A and moves to the column its figure falls in until it
-/// stays." Without an entry there is no figure to move by, and it ends with no cut.
+/// stays", or to the first column that it cannot use: "13 no squat entry, then 14 silt over
+/// 120, then 15 cut over 3,000, tested in that order within a column."
 pub fn worksheet(inputs: &Inputs) -> Worksheet {
     let mut tries = Vec::new();
     let mut column = Column::A;
-    while let Some(tried) = try_column(inputs, column) {
-        tries.push(tried);
-        if tried.falls_in == column {
-            let allowed = tried.z4 <= 120 && tried.figure <= 3_000;
-            let cut = if allowed { Some(tried.figure) } else { None };
+    loop {
+        let tried = try_column(inputs, column);
+        tries.extend(tried);
+        if let Some(cut) = ends(tried) {
             return Worksheet { tries, cut };
         }
-        column = tried.falls_in;
+        column = tried.map_or(column, |tried| tried.falls_in);
     }
-    Worksheet { tries, cut: None }
+}
+
+/// Why there is no cut.
+pub fn reason(inputs: &Inputs) -> u32 {
+    worksheet(inputs).cut.err().unwrap_or(0)
 }

@@ -59,7 +59,7 @@ fn level_of(sheet: &Sheet, record: Result<i32, u32>) -> Result<i64, Refusal> {
     }
 }
 
-/// "A design checks 1 to 9 in order."
+/// "A design checks 1 to 8 in order, then the depth's 13, 14, 15."
 fn work(bytes: &[u8], record: Result<i32, u32>) -> Result<Answer, Refusal> {
     let sheet = read(bytes)?;
     let level = level_of(&sheet, record)?;
@@ -71,10 +71,10 @@ fn work(bytes: &[u8], record: Result<i32, u32>) -> Result<Answer, Refusal> {
     }
     let lanes = width::lanes(&sheet);
     let inputs = depth::Inputs::of(&sheet, level, lanes);
-    let cut = depth::cut(&inputs).ok_or(refusal(9))?;
+    let cut = depth::cut(&inputs).ok_or_else(|| refusal(depth::reason(&inputs)))?;
     // "The s of that column is the sailing depth."
     let column = depth::column_of(&inputs, cut);
-    let s = depth::sailing_depth(&inputs, column).ok_or(refusal(9))?;
+    let s = depth::sailing_depth(&inputs, column).ok_or(refusal(13))?;
     let width = width::width(&sheet, lanes, s).map_err(refusal)?;
     Ok(Answer {
         code: 0,

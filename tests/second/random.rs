@@ -89,7 +89,7 @@ fn keep_pairs(rng: &mut Random, figures: &mut [i64; FIELDS]) {
     }
 }
 
-/// Takes away the commonest reasons for 7, 8 and 9.
+/// Takes away the commonest reasons for 7, 8 and no depth.
 fn calm(rng: &mut Random, figures: &mut [i64; FIELDS]) {
     if figures[13] == 1 {
         figures[16] = figures[16].min(rng.pick(&[1, 2, 5, 6, 15]));
