@@ -1,13 +1,12 @@
 -- The reason of a depth that is not given: the worksheet comes to one column that it cannot leave, and that column fails by one test.
 -- Assumes nothing.
 use mathlib.Core.Path.{_≡_, refl, sym, ap, subst, _∙_}
-use mathlib.Core.Bool.{Bool, true, false, true≢false}
+use mathlib.Core.Bool.{true, false, true≢false}
 use mathlib.Core.List.{List, [], _∷_}
-use mathlib.Core.Logic.{_↔_, _⊎_, inl, inr, _≢_}
-use Prim.Native.Nat.{ℕ, _≤_, _<_}
+use mathlib.Core.Logic.{_↔_, inl, inr, _≢_}
+use Prim.Native.Nat.{ℕ}
 use native.Mathlib.Omega.{arith}
 use lib.ListN.{length}
-use Rattle.laws.specs.Extremes.{Least}
 use Rattle.laws.proofs.Extremes.{least-only}
 use Rattle.datum.specs.Datum.{below}
 use Rattle.depth.specs.declared.Stretch.{Stretch}
@@ -21,7 +20,7 @@ use Rattle.depth.specs.declared.Finding.the-variants.{Stays, Moves, Unus
 use Rattle.depth.specs.declared.Depth.{Depth}
 use Rattle.depth.specs.declared.Depth.the-variants.{Cut, NoCut}
 use Rattle.depth.specs.Squat.{none, columnNumber}
-use Rattle.depth.specs.Depth.{z3, z4, sailing, ownColumn, Meets, AsDefined, faultNumber, depthNumber, NoDepthNumber}
+use Rattle.depth.specs.Depth.{sailing, ownColumn, Meets, AsDefined, faultNumber, depthNumber, NoDepthNumber}
 use Rattle.depth.specs.Worksheet.{figure, columnTry, findingOf, isMove, movesOn, tries, lastTry, answerBy, answerOf, workDepth, Followed, Counted}
 use Rattle.depth.specs.Reasons.{Usable, Fails, Comes, there, by-way-of, FirstUnusable, Reasoned}
 use Rattle.depth.proofs.Columns.{same-column}
