@@ -13,6 +13,7 @@ use Rattle.depth.specs.declared.Fault.the-variants.{NoSquatEntry, SiltOv
 use Rattle.depth.specs.declared.Finding.{Finding}
 use Rattle.depth.specs.declared.Finding.the-variants.{Stays, Moves, Unusable}
 use Rattle.depth.specs.Squat.{none, columnNumber}
+use Rattle.depth.specs.Depth.{faultNumber}
 use Rattle.depth.specs.Worksheet.{findingOf, isMove, movesOn, answerBy, answerOf}
 
 module _ (t : Try) where
@@ -54,6 +55,12 @@ pub not-within : (t : Try) (fault : Fault) → Past t fault → Within t → ⊥
 not-within t NoSquatEntry p w = omega (arith, w .entry)
 not-within t SiltOver p w = omega (arith, w .silt)
 not-within t CutOver p w = omega (arith, w .to)
+
+-- the numbers of the faults
+pub fault-known : (fault : Fault) → (13 ≤ faultNumber fault) × (faultNumber fault ≤ 15)
+fault-known NoSquatEntry = omega arith
+fault-known SiltOver = omega arith
+fault-known CutOver = omega arith
 
 -- what a finding says of its try
 abbrev pub Says : Try → Finding → Type 0

@@ -12,19 +12,17 @@ use Rattle.depth.specs.declared.Stretch.{Stretch}
 use Rattle.depth.specs.declared.Column.{Column}
 use Rattle.depth.specs.declared.Column.the-variants.{A}
 use Rattle.depth.specs.declared.Try.{Try}
-use Rattle.depth.specs.declared.Fault.{Fault}
-use Rattle.depth.specs.declared.Fault.the-variants.{NoSquatEntry, SiltOver, CutOver}
 use Rattle.depth.specs.declared.Finding.{Finding}
 use Rattle.depth.specs.declared.Finding.the-variants.{Stays, Moves, Unusable}
 use Rattle.depth.specs.declared.DepthFigures.{DepthFigures}
 use Rattle.depth.specs.declared.Depth.{Depth}
 use Rattle.depth.specs.declared.Depth.the-variants.{Cut, NoCut}
 use Rattle.depth.specs.Squat.{none, columnNumber, squatReading}
-use Rattle.depth.specs.Depth.{z3, z4, sailing, sailingWith, naturalOf, ownColumn, Serves, Meets, Figures, AsDefined, Ranges, faultNumber, depthNumber}
+use Rattle.depth.specs.Depth.{z3, z4, sailing, sailingWith, naturalOf, ownColumn, Serves, Meets, Figures, AsDefined, Ranges, depthNumber}
 use Rattle.depth.specs.Worksheet.{figure, columnTry, findingOf, isMove, movesOn, tries, lastTry, answerBy, answerOf, workDepth, Forward, Followed, Counted}
 use Rattle.depth.proofs.Columns.{column-most, reading-most, column-up, same-column}
 use Rattle.depth.proofs.Squat.{squat-some}
-use Rattle.depth.proofs.Findings.{Says, finding-says, not-within}
+use Rattle.depth.proofs.Findings.{Says, finding-says, not-within, fault-known}
 use Rattle.depth.proofs.Easier.{serves-earlier}
 use Rattle.depth.proofs.Tries.{tries-count}
 use Rattle.depth.proofs.Following.{walk-followed}
@@ -110,14 +108,9 @@ module _ (q : Stretch) where
   unfolding tries
   tries-followed = walk-followed (columnTry q) 2 A last-stops
 
-  some : (fault : Fault) → faultNumber fault ≡ 0 → ⊥
-  some NoSquatEntry e = omega arith
-  some SiltOver e = omega arith
-  some CutOver e = omega arith
-
   answered-when : (r : Depth) → AsDefined q r → (depthNumber r ≡ 0) ↔ ((d : ℕ) × Meets q d)
   answered-when (Cut f) a = ((λ e. (f .cut .0, a .cut .holds)), (λ m. refl))
-  answered-when (NoCut fault) a = ((λ e. absurd (some fault e)), (λ m. absurd (a (m .0) (m .1))))
+  answered-when (NoCut fault) a = ((λ e. absurd (omega (arith, fault-known fault))), (λ m. absurd (a (m .0) (m .1))))
 
   pub zero-exactly : (depthNumber (workDepth q) ≡ 0) ↔ ((d : ℕ) × Meets q d)
   zero-exactly = answered-when (workDepth q) work-as-defined

@@ -3,7 +3,7 @@
 use mathlib.Core.Path.{_≡_, refl, ap, subst}
 use mathlib.Core.Bool.{Bool, true, false}
 use mathlib.Core.List.{List}
-use mathlib.Core.Logic.{_↔_, _≢_}
+use mathlib.Core.Logic.{_↔_}
 use Prim.Native.Nat.{ℕ, _≤_}
 use native.Mathlib.Omega.{arith}
 use borrow.Author.Tests.{ltb-true, ltb-false, ne-eqb}
@@ -12,9 +12,10 @@ use Rattle.laws.specs.Extremes.{Least}
 use Rattle.laws.proofs.Extremes.{least-only}
 use Rattle.sheet.specs.Fields.{Bad}
 use Rattle.sheet.specs.Packing.{groupsOf, Bytes}
-use Rattle.depth.specs.Depth.{Meets, faultNumber}
+use Rattle.depth.specs.Depth.{Meets}
 use Rattle.depth.specs.declared.Fault.{Fault}
 use Rattle.depth.specs.declared.Fault.the-variants.{NoSquatEntry, SiltOver, CutOver}
+use Rattle.depth.proofs.Findings.{fault-known}
 use Rattle.depth.proofs.Promises.{unusable-none}
 use Rattle.design.specs.Design.{designOf}
 use Rattle.design.specs.Numbers.{reasonNumber}
@@ -27,11 +28,6 @@ use Rattle.design.specs.declared.Answer.{Answer}
 use Rattle.design.specs.declared.Answer.the-variants.{Answered, Refused}
 use Rattle.design.proofs.OnlyFigures.{figures-only}
 use Rattle.design.proofs.Checked.{Told, refused, answered, told}
-
-three-not : (fault : Fault) → faultNumber fault ≢ 3
-three-not NoSquatEntry e = omega arith
-three-not SiltOver e = omega arith
-three-not CutOver e = omega arith
 
 module _ (bytes table : List ℕ) where
   -- a row with none before it comes no later than another that holds
@@ -123,7 +119,7 @@ module _ (bytes table : List ℕ) where
       named RangeTooWide e n l = absurd (omega arith)
       named BendTooTight e n l = absurd (omega arith)
       named NoWidthEntry e n l = absurd (omega arith)
-      named (NoDepth fault) e n l = absurd (three-not fault e)
+      named (NoDepth fault) e n l = absurd (omega (arith, fault-known fault))
 
   module _ (small : Bytes bytes) where
     pub number-exactly : (number : ℕ) → 1 ≤ number

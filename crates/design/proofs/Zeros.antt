@@ -9,9 +9,8 @@ use lib.IntN.{pos}
 use lib.ListN.{length, take, replicate}
 use Rattle.laws.specs.Choice.{if_then_else_, _=ᵇ_}
 use Rattle.datum.specs.Datum.{levelOf}
-use Rattle.depth.specs.Depth.{faultNumber}
-use Rattle.depth.specs.declared.Fault.{Fault}
 use Rattle.depth.specs.declared.Fault.the-variants.{NoSquatEntry, SiltOver, CutOver}
+use Rattle.depth.proofs.Findings.{fault-known}
 use Rattle.design.specs.Numbers.{reasonNumber, reasonField, laneNumber, numbersOf}
 use Rattle.design.specs.Refusals.{codeOf, fieldOf, CodeKnown}
 use Rattle.design.specs.declared.Figures.{Figures}
@@ -37,11 +36,6 @@ code-and-field (Answered f) = refl
 code-and-field (Refused r) = refl
 
 -- the numbers that turn a design away: 1 to 8, 13, 14 and 15
-fault-known : (fault : Fault) → (13 ≤ faultNumber fault) × (faultNumber fault ≤ 15)
-fault-known NoSquatEntry = omega arith
-fault-known SiltOver = omega arith
-fault-known CutOver = omega arith
-
 reason-known : (r : Reason) → CodeKnown (reasonNumber r)
 reason-known WrongLength = inl (omega arith)
 reason-known SpareBitSet = inl (omega arith)
