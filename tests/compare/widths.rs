@@ -150,13 +150,38 @@ fn at_each_limit(handles: &mut Handles, report: &mut Report, rng: &mut Random) {
     }
 }
 
+/// The items of every number that a band's type holds, past the sheet's ranges too.
+fn every_number(handles: &mut Handles, report: &mut Report, rng: &mut Random) {
+    for water in 0..=1 {
+        for speed in [7, 8] {
+            for (field, last) in [(16, 255), (17, 255), (18, 255), (19, 65_535)] {
+                let sheet = Sheet {
+                    figures: random::valid_sheet(rng),
+                };
+                let sheet = changed(&changed(&sheet, 14, water), 5, speed);
+                // a cross current and a wave with entries, so that only the number tried can be refused
+                let sheet = changed(&changed(&sheet, 17, 15), 19, 100);
+                let s = some_s(rng, sheet.draft());
+                for figure in 0..=last {
+                    let sheet = changed(&sheet, field, figure);
+                    let proved = items_by_proved(handles, &sheet, 2, s);
+                    report.case(proved, items_by_second(&sheet, 2, s), || {
+                        format!("{:?}, s {s}", sheet.figures)
+                    });
+                }
+            }
+        }
+    }
+}
+
 pub fn widths() {
-    let mut report = Report::new("widths", 600_000);
+    let mut report = Report::new("widths", 850_000);
     let mut handles = Handles::start();
     let mut rng = Random::new(6);
     for _ in 0..20 {
         at_each_limit(&mut handles, &mut report, &mut rng);
     }
+    every_number(&mut handles, &mut report, &mut rng);
     for _ in 0..200_000 {
         let sheet = Sheet {
             figures: random::valid_sheet(&mut rng),

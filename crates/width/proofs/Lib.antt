@@ -1,5 +1,4 @@
 pub mod Banks
-pub mod Tables
 pub mod Entries
 pub mod Totals
 pub mod Curves

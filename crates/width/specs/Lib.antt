@@ -4,4 +4,3 @@ pub mod Additions
 pub mod Width
 pub mod Bends
 pub mod Comparing
-pub mod Rows

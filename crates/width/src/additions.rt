@@ -1,4 +1,4 @@
-// The items of a width that need no table (definition, sections 5.1 to 5.3).
+// The items of a width but for currents and waves (definition, sections 5.1 to 5.3).
 ghost use mathlib.Core.Path.{_≡_};
 ghost use Rattle.width.specs.Bands.{by_in-open_in-sheltered_, for_moderate_slow_};
 ghost use Rattle.width.specs.Additions.{laneItem, windItem, aidsItem, bedItem, depthItem, cargoItem, bankItem, banksItem, passingItem, trafficItem};
@@ -161,7 +161,7 @@ pub fn listed(stretch: Stretch, water: Water, band: SpeedBand, cross: u8, wave: 
         lane: lane_item(stretch.handling),
         wind: wind_item(band, stretch.wind),
         cross,
-        along: along_item(water, band, stretch.along),
+        along: along_item(band, stretch.along),
         wave,
         aids: aids_item(stretch.aids),
         bed: bed_item(stretch.draft, stretch.sailing, stretch.bottom),

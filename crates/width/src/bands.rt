@@ -1,93 +1,95 @@
-// The bands of currents and waves, looked up by a row that counts the bands passed (definition, section 5.2).
+// The bands of currents and waves, line by line as (c), (d) and (e) of annex A of TCVN 9272:2012 (definition, section 5.2).
+// A band's lines are moderate then slow, since no sheet has a fast ship; a line has open water, then sheltered; a dash is a blank entry.
 ghost use mathlib.Core.Path.{_≡_};
-ghost use Prim.Native.Nat.{_≤_, _<_};
-ghost use Rattle.width.specs.Bands.{crossEntry, alongItem, waveEntry};
-ghost use Rattle.width.specs.Rows.{from, over, columnOf, entryOf};
+ghost use Rattle.width.specs.Bands.{by_in-open_in-sheltered_, crossEntry, alongItem, waveEntry};
+ghost use Rattle.width.specs.declared.Entry.the-variants.{Tenths, Blank};
 use crate::Entry;
 use crate::SpeedBand;
 use crate::Water;
 use sheet::AlongCurrent;
 use sheet::CrossCurrent;
 
-// What stands in a table where there is no entry: more than any entry.
-const BLANK: u8 = 255;
-
-// Each table's columns: open moderate, open slow, sheltered moderate, sheltered slow.
-// Cross current: under 2, to 5, to 15, over 15.
-const CROSS: [[u8; 4]; 4] = [
-    [0, 0, 0, 0],
-    [2, 3, 1, 2],
-    [7, 10, 5, 8],
-    [10, 13, 255, 255],
-];
-
-// Along current: under 15, to 30, over 30.
-const ALONG: [[u8; 4]; 3] = [[0, 0, 0, 0], [1, 2, 1, 2], [2, 4, 2, 4]];
-
-// Wave: to 100, to 300, over 300.
-const WAVE: [[u8; 4]; 3] = [[0, 0, 0, 0], [10, 5, 255, 255], [22, 15, 255, 255]];
-
-// One row further from a figure on.
-fn from(start: u16, figure: u16) -> usize
-    ensures { λ r. ⌜ r ≡ from start figure ⌝ }
-    ensures { λ r. ⌜ r ≤ 1 ⌝ }
-{
-    if figure < start { 0 } else { 1 }
-}
-
-// One row further over a figure.
-fn over(end: u16, figure: u16) -> usize
-    ensures { λ r. ⌜ r ≡ over end figure ⌝ }
-    ensures { λ r. ⌜ r ≤ 1 ⌝ }
-{
-    if figure <= end { 0 } else { 1 }
-}
-
-fn column_of(water: Water, band: SpeedBand) -> usize
-    ensures { λ r. ⌜ r ≡ columnOf water band ⌝ }
-    ensures { λ r. ⌜ r < 4 ⌝ }
+// A line of the annex with a figure for open water and one for sheltered water.
+fn both(water: Water, outside: u8, inside: u8) -> Entry
+    ensures { λ r. ⌜ r ≡ Tenths (by water in-open outside in-sheltered inside) ⌝ }
 {
     match water {
-        Water::Open => match band {
-            SpeedBand::Moderate => 0,
-            SpeedBand::Slow => 1,
-        },
-        Water::Sheltered => match band {
-            SpeedBand::Moderate => 2,
-            SpeedBand::Slow => 3,
-        },
+        Water::Open => Entry::Tenths(outside),
+        Water::Sheltered => Entry::Tenths(inside),
     }
 }
 
-fn entry_of(tenths: u8) -> Entry
-    ensures { λ r. ⌜ r ≡ entryOf tenths ⌝ }
+// A line with a figure for open water and a dash for sheltered water.
+fn open_only(water: Water, outside: u8) -> Entry
+    ensures { λ r. ⌜ r ≡ (by water in-open (Tenths outside) in-sheltered Blank) ⌝ }
 {
-    if tenths == BLANK {
-        Entry::Blank
-    } else {
-        Entry::Tenths(tenths)
+    match water {
+        Water::Open => Entry::Tenths(outside),
+        Water::Sheltered => Entry::Blank,
     }
 }
 
+// (c) Cross current, in tenths of a knot: negligible, weak, moderate, strong.
 pub fn cross_entry(water: Water, band: SpeedBand, cross: CrossCurrent) -> Entry
     ensures { λ r. ⌜ r ≡ crossEntry water band cross ⌝ }
 {
-    let figure = cross.0 as u16;
-    let row = CROSS[from(2, figure) + over(5, figure) + over(15, figure)];
-    entry_of(row[column_of(water, band)])
+    let current = cross.0;
+    if current < 2 {
+        return Entry::Tenths(0);
+    }
+    if current <= 5 {
+        return match band {
+            SpeedBand::Moderate => both(water, 2, 1),
+            SpeedBand::Slow => both(water, 3, 2),
+        };
+    }
+    if current <= 15 {
+        return match band {
+            SpeedBand::Moderate => both(water, 7, 5),
+            SpeedBand::Slow => both(water, 10, 8),
+        };
+    }
+    match band {
+        SpeedBand::Moderate => open_only(water, 10),
+        SpeedBand::Slow => open_only(water, 13),
+    }
 }
 
-pub fn along_item(water: Water, band: SpeedBand, along: AlongCurrent) -> u8
+// (d) Along current, in tenths of a knot: weak, moderate, strong; each line has one figure in both waters.
+pub fn along_item(band: SpeedBand, along: AlongCurrent) -> u8
     ensures { λ r. ⌜ r ≡ alongItem band along ⌝ }
 {
-    let figure = along.0 as u16;
-    let row = ALONG[from(15, figure) + over(30, figure)];
-    row[column_of(water, band)]
+    let current = along.0;
+    if current < 15 {
+        return 0;
+    }
+    if current <= 30 {
+        return match band {
+            SpeedBand::Moderate => 1,
+            SpeedBand::Slow => 2,
+        };
+    }
+    match band {
+        SpeedBand::Moderate => 2,
+        SpeedBand::Slow => 4,
+    }
 }
 
+// (e) Wave height, in cm: to 1 m, to 3 m, over 3 m.
 pub fn wave_entry(water: Water, band: SpeedBand, wave: u16) -> Entry
     ensures { λ r. ⌜ r ≡ waveEntry water band wave ⌝ }
 {
-    let row = WAVE[over(100, wave) + over(300, wave)];
-    entry_of(row[column_of(water, band)])
+    if wave <= 100 {
+        return Entry::Tenths(0);
+    }
+    if wave <= 300 {
+        return match band {
+            SpeedBand::Moderate => open_only(water, 10),
+            SpeedBand::Slow => open_only(water, 5),
+        };
+    }
+    match band {
+        SpeedBand::Moderate => open_only(water, 22),
+        SpeedBand::Slow => open_only(water, 15),
+    }
 }

@@ -1,47 +1,53 @@
--- `width::bands::along_item` meets its contract: the row that the current comes to is its band's.
+-- `width::bands::along_item` meets its contract: a way out for each line of the annex.
 -- Assumes nothing.
 use borrow.Author.Needs.{needs}
-use Rattle.width.proofs.Tables.{along-row}
+use borrow.Author.Tests.{le-leb, le-ltb, lt-leb, lt-ltb}
+use Rattle.width.specs.Bands.{alongItem}
 use Rattle.width.proofs.bands.along_item.Statement.{statement}
 use Rattle.width.proofs.bands.along_item.Tie as tie
 
-cast-figure : tie.Need-cast-figure
-cast-figure c = search needs
-
-from-requires : tie.Need-from-requires
-from-requires c κs = search needs
-
-over-requires : tie.Need-over-requires
-over-requires c κs = search needs
-
-add-row : tie.Need-add-row
-add-row c = search needs
-
-mul-row : tie.Need-mul-row
-mul-row c = search needs
-
-array-copy-out-row : tie.Need-array-copy-out-row
-array-copy-out-row c = search needs
-
-column-of-requires : tie.Need-column-of-requires
-column-of-requires c κs = search needs
-
-array-read-result : tie.Need-array-read-result
-array-read-result c = search needs
-
 returns : tie.Need-returns
-returns c = along-row (c .before .before .before .before .before .args .water) _ _ _ _ _ (c .before .before .before .from .ensures .0) (c .before .before .over .ensures .0) (c .column-of .ensures .0)
+unfolding alongItem
+returns c = rw (lt-ltb _ 15 (c .if1 .taken))
+
+enum-told : tie.Need-enum-told
+enum-told c = search needs
+
+enum-told-2 : tie.Need-enum-told-2
+enum-told-2 c = search needs
+
+returns-2 : tie.Need-returns-2
+unfolding alongItem
+returns-2 c = rw (le-ltb _ 15 (c .before .before .before .if1 .left), le-leb _ 30 (c .before .before .if2 .taken), c .enum-told .given .1)
+
+returns-3 : tie.Need-returns-3
+unfolding alongItem
+returns-3 c = rw (le-ltb _ 15 (c .before .before .before .if1 .left), le-leb _ 30 (c .before .before .if2 .taken), c .enum-told2 .given .1)
+
+enum-told-3 : tie.Need-enum-told-3
+enum-told-3 c = search needs
+
+enum-told-4 : tie.Need-enum-told-4
+enum-told-4 c = search needs
+
+returns-4 : tie.Need-returns-4
+unfolding alongItem
+returns-4 c = rw (le-ltb _ 15 (c .before .before .before .if1 .left), lt-leb _ 30 (c .before .before .if2 .left), c .enum-told3 .given .1)
+
+returns-5 : tie.Need-returns-5
+unfolding alongItem
+returns-5 c = rw (le-ltb _ 15 (c .before .before .before .if1 .left), lt-leb _ 30 (c .before .before .if2 .left), c .enum-told4 .given .1)
 
 pub along-item-spec : {M : Type 1} → statement M
 along-item-spec =
     tie.close
     (tie.spec
-    cast-figure
-    from-requires
-    over-requires
-    add-row
-    mul-row
-    array-copy-out-row
-    column-of-requires
-    array-read-result
-    returns)
+    returns
+    enum-told
+    enum-told-2
+    returns-2
+    returns-3
+    enum-told-3
+    enum-told-4
+    returns-4
+    returns-5)

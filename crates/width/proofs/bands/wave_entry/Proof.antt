@@ -1,48 +1,69 @@
--- `width::bands::wave_entry` meets its contract: the row that the wave comes to is its band's.
+-- `width::bands::wave_entry` meets its contract: a way out for each line of the annex.
 -- Assumes nothing.
-use mathlib.Core.Path.{_∙_}
 use borrow.Author.Needs.{needs}
-use Rattle.width.proofs.Tables.{wave-row}
+use borrow.Author.Tests.{le-leb, lt-leb}
+use Rattle.width.specs.Bands.{waveEntry}
 use Rattle.width.proofs.bands.wave_entry.Statement.{statement}
 use Rattle.width.proofs.bands.wave_entry.Tie as tie
 
-over-requires : tie.Need-over-requires
-over-requires c κs = search needs
-
-over-requires-2 : tie.Need-over-requires-2
-over-requires-2 c κs = search needs
-
-add-row : tie.Need-add-row
-add-row c = search needs
-
-mul-row : tie.Need-mul-row
-mul-row c = search needs
-
-array-copy-out-row : tie.Need-array-copy-out-row
-array-copy-out-row c = search needs
-
-column-of-requires : tie.Need-column-of-requires
-column-of-requires c κs = search needs
-
-array-read-entry-of : tie.Need-array-read-entry-of
-array-read-entry-of c = search needs
-
-entry-of-requires : tie.Need-entry-of-requires
-entry-of-requires c κs = search needs
-
 returns : tie.Need-returns
-returns c = c .entry-of .ensures ∙ wave-row _ _ _ _ _ _ (c .before .before .before .before .over .ensures .0) (c .before .before .before .over2 .ensures .0) (c .before .column-of .ensures .0)
+unfolding waveEntry
+returns c = rw (le-leb _ 100 (c .if1 .taken))
+
+enum-told : tie.Need-enum-told
+enum-told c = search needs
+
+open-only-requires : tie.Need-open-only-requires
+open-only-requires c κs = search needs
+
+enum-told-2 : tie.Need-enum-told-2
+enum-told-2 c = search needs
+
+open-only-requires-2 : tie.Need-open-only-requires-2
+open-only-requires-2 c κs = search needs
+
+returns-2 : tie.Need-returns-2
+unfolding waveEntry
+returns-2 c = rw (lt-leb _ 100 (c .before .before .before .before .if1 .left), le-leb _ 300 (c .before .before .before .if2 .taken), c .before .enum-told .given .1) (c .open-only .ensures)
+
+returns-3 : tie.Need-returns-3
+unfolding waveEntry
+returns-3 c = rw (lt-leb _ 100 (c .before .before .before .before .if1 .left), le-leb _ 300 (c .before .before .before .if2 .taken), c .before .enum-told2 .given .1) (c .open-only2 .ensures)
+
+enum-told-3 : tie.Need-enum-told-3
+enum-told-3 c = search needs
+
+open-only-requires-3 : tie.Need-open-only-requires-3
+open-only-requires-3 c κs = search needs
+
+enum-told-4 : tie.Need-enum-told-4
+enum-told-4 c = search needs
+
+open-only-requires-4 : tie.Need-open-only-requires-4
+open-only-requires-4 c κs = search needs
+
+returns-4 : tie.Need-returns-4
+unfolding waveEntry
+returns-4 c = rw (lt-leb _ 100 (c .before .before .before .before .if1 .left), lt-leb _ 300 (c .before .before .before .if2 .left), c .before .enum-told3 .given .1) (c .open-only3 .ensures)
+
+returns-5 : tie.Need-returns-5
+unfolding waveEntry
+returns-5 c = rw (lt-leb _ 100 (c .before .before .before .before .if1 .left), lt-leb _ 300 (c .before .before .before .if2 .left), c .before .enum-told4 .given .1) (c .open-only4 .ensures)
 
 pub wave-entry-spec : {M : Type 1} → statement M
 wave-entry-spec =
     tie.close
     (tie.spec
-    over-requires
-    over-requires-2
-    add-row
-    mul-row
-    array-copy-out-row
-    column-of-requires
-    array-read-entry-of
-    entry-of-requires
-    returns)
+    returns
+    enum-told
+    open-only-requires
+    enum-told-2
+    open-only-requires-2
+    returns-2
+    returns-3
+    enum-told-3
+    open-only-requires-3
+    enum-told-4
+    open-only-requires-4
+    returns-4
+    returns-5)

@@ -1,0 +1,20 @@
+-- `width::bands::both` meets its contract: a way out for each water.
+-- Assumes nothing.
+use borrow.Author.Needs.{needs}
+use Rattle.width.proofs.bands.both.Statement.{statement}
+use Rattle.width.proofs.bands.both.Tie as tie
+
+enum-told : tie.Need-enum-told
+enum-told c = search needs
+
+enum-told-2 : tie.Need-enum-told-2
+enum-told-2 c = search needs
+
+returns : tie.Need-returns
+returns c = rw (c .enum-told .given .1)
+
+returns-2 : tie.Need-returns-2
+returns-2 c = rw (c .enum-told2 .given .1)
+
+pub both-spec : {M : Type 1} → statement M
+both-spec = tie.close (tie.spec enum-told enum-told-2 returns returns-2)
