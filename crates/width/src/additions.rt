@@ -1,6 +1,6 @@
 // The items of a width but for currents and waves (definition, sections 5.1 to 5.3).
 ghost use mathlib.Core.Path.{_≡_};
-ghost use Rattle.width.specs.Bands.{by_in-open_in-sheltered_, for_moderate_slow_};
+ghost use Rattle.width.specs.Bands.{for_moderate_slow_};
 ghost use Rattle.width.specs.Additions.{laneItem, windItem, aidsItem, bedItem, depthItem, cargoItem, bankItem, banksItem, passingItem, trafficItem};
 ghost use Rattle.width.specs.Width.{itemsWith};
 use crate::Items;
@@ -8,6 +8,7 @@ use crate::SpeedBand;
 use crate::Stretch;
 use crate::Water;
 use crate::bands::along_item;
+use crate::bands::watered;
 use datum::BelowLevel;
 
 // A figure written moderate/slow.
@@ -17,16 +18,6 @@ fn paced(band: SpeedBand, faster: u8, slower: u8) -> u8
     match band {
         SpeedBand::Moderate => faster,
         SpeedBand::Slow => slower,
-    }
-}
-
-// A figure of open water and one of sheltered water.
-fn watered(water: Water, outside: u8, inside: u8) -> u8
-    ensures { λ r. ⌜ r ≡ (by water in-open outside in-sheltered inside) ⌝ }
-{
-    match water {
-        Water::Open => outside,
-        Water::Sheltered => inside,
     }
 }
 

@@ -9,14 +9,21 @@ use crate::Water;
 use sheet::AlongCurrent;
 use sheet::CrossCurrent;
 
+// A figure of open water and one of sheltered water.
+pub fn watered(water: Water, outside: u8, inside: u8) -> u8
+    ensures { λ r. ⌜ r ≡ (by water in-open outside in-sheltered inside) ⌝ }
+{
+    match water {
+        Water::Open => outside,
+        Water::Sheltered => inside,
+    }
+}
+
 // A line of the annex with a figure for open water and one for sheltered water.
 fn both(water: Water, outside: u8, inside: u8) -> Entry
     ensures { λ r. ⌜ r ≡ Tenths (by water in-open outside in-sheltered inside) ⌝ }
 {
-    match water {
-        Water::Open => Entry::Tenths(outside),
-        Water::Sheltered => Entry::Tenths(inside),
-    }
+    Entry::Tenths(watered(water, outside, inside))
 }
 
 // A line with a figure for open water and a dash for sheltered water.
