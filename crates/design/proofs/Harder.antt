@@ -5,7 +5,7 @@ use mathlib.Core.Bool.{true}
 use Prim.Native.Nat.{ℕ}
 use Rattle.design.specs.Design.{designOf}
 use Rattle.design.specs.Harder.{cut, width, NeverEasier, _never-lessens_}
-use Rattle.design.proofs.Checked.{told}
+use Rattle.design.proofs.Exactly.{design-ended}
 use Rattle.design.proofs.Compared.{widens, hardens, compared}
 use Rattle.design.proofs.HarderRows.{level-in-same, no-easier, cut-rises}
 use Rattle.design.proofs.HarderWidths.{width-rises}
@@ -14,7 +14,7 @@ pub deepens : (k : ℕ) → hardens k ≡ true → NeverEasier (k never-lessens 
 deepens k is easy hard table small small' h =
     let c = compared hardens k easy hard is h in
     no-easier easy hard table (h .easy-read) (h .same-lanes) c small cut (cut-rises easy hard table (h .easy-read) (h .same-lanes) c)
-    (designOf easy table) (designOf hard table) (told easy table small) (told hard table small')
+    (designOf easy table) (designOf hard table) (design-ended easy table small) (design-ended hard table small')
 
 pub broadens : (k : ℕ) → widens k ≡ true → hardens k ≡ true → NeverEasier (k never-lessens width)
 broadens k is too easy hard table small small' h =
@@ -22,4 +22,4 @@ broadens k is too easy hard table small small' h =
     no-easier easy hard table (h .easy-read) (h .same-lanes) c small width
     (λ f g there are are'. width-rises easy hard table (h .same-lanes) (compared widens k easy hard is h)
     (level-in-same easy hard table (h .easy-read) (h .same-lanes) c) f g are are' there)
-    (designOf easy table) (designOf hard table) (told easy table small) (told hard table small')
+    (designOf easy table) (designOf hard table) (design-ended easy table small) (design-ended hard table small')

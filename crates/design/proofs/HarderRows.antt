@@ -8,16 +8,18 @@ use Prim.Native.Nat.{ℕ, _*_, _≤_, _<_}
 use native.Mathlib.Nat.{mul-le-mul}
 use native.Mathlib.Omega.{arith}
 use lib.IntN.{ℤ, pos}
+use Rattle.laws.proofs.Rows.{Carried, _&_, carried, none-held}
 use Rattle.laws.proofs.Extremes.{least-grows}
 use Rattle.datum.specs.Datum.{belowChart, naturalDepth}
 use Rattle.sheet.specs.Fields.{fields, fieldAt, least}
 use Rattle.sheet.specs.Packing.{groupsOf, Bytes}
 use Rattle.sheet.specs.Sheets.{levelSourceOf, sheetOf, readOf}
+use Rattle.sheet.specs.Refusals.{readNumber}
 use Rattle.sheet.specs.declared.Sheet.{Sheet}
 use Rattle.sheet.specs.declared.SheetRead.the-variants.{Good}
 use Rattle.sheet.specs.declared.LevelSource.{LevelSource}
 use Rattle.sheet.proofs.OneWriting.{accepted}
-use Rattle.sheet.proofs.Reading.{good-exactly}
+use Rattle.sheet.proofs.Reading.{read-exactly}
 use Rattle.sheet.proofs.Valid.{fine}
 use Rattle.depth.specs.Interval.{intervalOf}
 use Rattle.depth.specs.Squat.{squatReading}
@@ -29,15 +31,13 @@ use Rattle.depth.specs.declared.Fault.the-variants.{NoSquatEntry, SiltOver, Cut
 use Rattle.depth.proofs.Promises.{meets-the-easier, unusable-none}
 use Rattle.width.specs.Bends.{leastLengths}
 use Rattle.design.specs.Design.{lanesFor}
-use Rattle.design.specs.Numbers.{reasonNumber}
-use Rattle.design.specs.Refusals.{sheetIn, levelIn, levelFrom, Row, NoneBefore, TightBend, EntryMissing, OffRecord}
+use Rattle.design.specs.Refusals.{sheetIn, levelIn, levelFrom, rows, TightBend, EntryMissing, OffRecord}
 use Rattle.design.specs.Answers.{stretchOf, FiguresAre}
 use Rattle.design.specs.Harder.{cut, AtMost, NoEasier, no-less, refused as harder-refused}
 use Rattle.design.specs.declared.Figures.{Figures}
-use Rattle.design.specs.declared.Reason.{Reason}
-use Rattle.design.specs.declared.Reason.the-variants.{WrongLength, SpareBitSet, BadField, WrongTable, TooFewReadings, RangeTooWide, BendTooTight, NoWidthEntry, NoDepth}
 use Rattle.design.specs.declared.Answer.{Answer}
-use Rattle.design.proofs.Checked.{Told, refused, answered}
+use Rattle.design.specs.declared.Answer.the-variants.{Answered, Refused}
+use Rattle.design.proofs.Exactly.{Ended}
 use Rattle.design.proofs.Compared.{hardens, Compared}
 
 -- the rows, and what the two depths are worked from
@@ -111,29 +111,36 @@ module _ (easy hard table : List ℕ) (read : readOf easy ≡ Good (sheetIn easy
 
   module _ (small : Bytes easy) where
     -- each row that turns the easier sheet away turns the harder away, or leaves it without a depth
-    turned-away : (r : Reason) → Row easy table (reasonNumber r) → NoneBefore hard table 16 → (d : ℕ) → ¬ Meets (stretchOf s' (levelIn s' table)) d
-    unfolding Row
-    turned-away WrongLength row none = absurd (row (good-exactly easy small .0 (s, read) .0))
-    turned-away SpareBitSet row none = absurd (good-exactly easy small .0 (s, read) .1 row)
-    turned-away (BadField k) row none = absurd (good-exactly easy small .0 (s, read) .2 (row .field) (row .bad))
-    turned-away WrongTable row none = absurd (none 4 (omega arith) (off-record-too _ row))
-    turned-away TooFewReadings row none = absurd (none 5 (omega arith) (off-record-too _ row))
-    turned-away RangeTooWide row none = absurd (none 6 (omega arith) (off-record-too _ row))
-    turned-away BendTooTight row none = absurd (none 7 (omega arith) (tight-too row))
-    turned-away NoWidthEntry row none = absurd (none 8 (omega arith) (missing-too row))
-    turned-away (NoDepth NoSquatEntry) row none = no-depth-too NoSquatEntry row
-    turned-away (NoDepth SiltOver) row none = no-depth-too SiltOver row
-    turned-away (NoDepth CutOver) row none = no-depth-too CutOver row
+    rows-carried : (d : ℕ) → Meets (stretchOf s' (levelIn s' table)) d → Carried (rows easy table) (rows hard table)
+    unfolding rows
+    rows-carried d meets =
+        let good = read-exactly easy small .else-answered .0 (ap readNumber read) in
+        (λ h. good .0)
+        & (λ h. good .1 .0)
+        & (λ h. good .1 .1 .0)
+        & (λ h row. h (off-record-too _ row))
+        & (λ h row. h (off-record-too _ row))
+        & (λ h row. h (off-record-too _ row))
+        & (λ h row. h (tight-too row))
+        & (λ h row. h (missing-too row))
+        & (λ h row. no-depth-too NoSquatEntry row d meets)
+        & (λ h row. no-depth-too SiltOver row d meets)
+        & (λ h row. no-depth-too CutOver row d meets)
+        & tt
 
     -- so only the figures are left to compare
     pub no-easier : (figure : Figures → ℤ)
         → ((f g : Figures) → ¬ EntryMissing s' → FiguresAre s (levelIn s table) f → FiguresAre s' (levelIn s' table) g → AtMost (figure f) (figure g))
-        → (a b : Answer) → Told easy table a → Told hard table b → NoEasier figure a b
-    unfolding Row
-    no-easier figure at-most a b t (refused r row before names) = harder-refused
-    no-easier figure at-most a b (refused r row before names) (answered g none are) =
-        absurd (turned-away r row none (g .cut .0) (are .cut .holds))
-    no-easier figure at-most a b (answered f none are) (answered g none' are') = no-less (at-most f g (none' 8 (omega arith)) are are')
+        → (a b : Answer) → Ended easy table a → Ended hard table b → NoEasier figure a b
+    unfolding rows
+    no-easier figure at-most a (Refused r) t u = harder-refused
+    no-easier figure at-most a (Answered g) t (inr u) = absurd (u .1)
+    no-easier figure at-most (Answered f) (Answered g) (inl t) (inl u) =
+        no-less (at-most f g (none-held (rows hard table) (u .0) 8) (t .1) (u .1))
+    no-easier figure at-most (Answered f) (Answered g) (inr t) (inl u) = absurd (t .1)
+    no-easier figure at-most (Refused r) (Answered g) (inl t) (inl u) = absurd (t .1)
+    no-easier figure at-most (Refused r) (Answered g) (inr t) (inl u) =
+        absurd (t .0 (carried (rows easy table) (rows hard table) (rows-carried (g .cut .0) (u .1 .cut .holds)) (u .0)))
 
   pub cut-rises : (f g : Figures) → ¬ EntryMissing s' → FiguresAre s (levelIn s table) f → FiguresAre s' (levelIn s' table) g → AtMost (cut f) (cut g)
   cut-rises f g there are are' = least-grows _ _ (f .cut .0) (g .cut .0) meets-too (are .cut) (are' .cut)

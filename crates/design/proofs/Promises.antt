@@ -3,11 +3,12 @@
 -- says. Assumes nothing.
 use mathlib.Core.Path.{_≡_, refl}
 use mathlib.Core.List.{List, [], _∷_, map}
-use mathlib.Core.Logic.{_↔_, _≢_}
+use mathlib.Core.Logic.{_↔_, _≢_, _⊎_}
 use Prim.Native.Nat.{ℕ, _≤_}
 use native.Mathlib.Omega.{arith}
 use lib.IntN.{ℤ, pos}
 use lib.ListN.{length, take, replicate}
+use Rattle.laws.specs.Rows.{NoneBefore, None, Listed, Exactly}
 use Rattle.laws.specs.Extremes.{Least}
 use Rattle.laws.proofs.Unique.{one-answer}
 use Rattle.datum.specs.Datum.{levelOf}
@@ -27,7 +28,7 @@ use Rattle.depth.specs.Depth.{Meets}
 use Rattle.depth.specs.declared.Fault.{Fault}
 use Rattle.design.specs.Design.{levelFor, designAt, designOf}
 use Rattle.design.specs.Numbers.{reasonNumber, reasonField, laneNumber, numbersOf}
-use Rattle.design.specs.Refusals.{sheetIn, levelIn, Row, NoneBefore, codeOf, fieldOf, CodeKnown}
+use Rattle.design.specs.Refusals.{sheetIn, levelIn, rows, codeOf, fieldOf}
 use Rattle.design.specs.Answers.{stretchOf, FiguresAre}
 use Rattle.design.specs.declared.Figures.{Figures}
 use Rattle.design.specs.declared.Reason.{Reason}
@@ -37,7 +38,7 @@ use Rattle.design.specs.declared.Answer.the-variants.{Answered, Refused}
 use Rattle.design.proofs.Zeros as the-numbers
 use Rattle.design.proofs.Readings.{sheet-read, level-read}
 use Rattle.design.proofs.OnlyFigures.{figures-only}
-use Rattle.design.proofs.Exactly.{number-exactly, zero-exactly, field-exactly, figures-exactly, no-depth-only as no-depth-said}
+use Rattle.design.proofs.Exactly.{design-exactly, field-exactly, figures-exactly, no-depth-only as no-depth-said}
 use Rattle.design.specs.Harder.{hardenings, NeverEasier, Each, none, _&_}
 use Rattle.design.proofs.Harder.{deepens, broadens}
 use Rattle.design.proofs.Starred as the-starred
@@ -45,16 +46,17 @@ use Rattle.design.proofs.Starred as the-starred
 -- Demand 1
 module _ (bytes table : List ℕ) where
   -- Every string of bytes is read as a sheet or refused by a fixed number: past 1, 2 and 3 it is the sheet of which the later rows speak.
-  pub sheet-is-read : Bytes bytes → NoneBefore bytes table 4 → readOf bytes ≡ Good (sheetIn bytes)
+  pub sheet-is-read : Bytes bytes → NoneBefore (rows bytes table) 4 → readOf bytes ≡ Good (sheetIn bytes)
   sheet-is-read = sheet-read bytes table
 
-  -- Nothing is left for the caller to check first: any bytes over any table are answered, or refused by 1 to 8, 13, 14 or 15.
-  pub code-is-known : CodeKnown (codeOf (designOf bytes table))
-  code-is-known = the-numbers.code-known (designOf bytes table)
+  -- Nothing is left for the caller to check first: any bytes over any table are answered, by 0, or refused by the number of a row.
+  pub code-is-known : (codeOf (designOf bytes table) ≡ 0) ⊎ Listed (rows bytes table) (codeOf (designOf bytes table))
+  code-is-known = the-numbers.code-listed bytes table (designOf bytes table)
 
   -- 9 is retired.
   pub nine-never : codeOf (designOf bytes table) ≢ 9
-  nine-never = the-numbers.code-never (designOf bytes table) 9 (omega arith) (omega arith)
+  unfolding rows
+  nine-never = the-numbers.code-never bytes table (designOf bytes table) 9 (omega arith) tt
 
 -- A refused sheet yields its number, the place of a bad field, and zeros.
 pub refused-figures-zero : (r : Reason) → numbersOf (Refused r) ≡ pos (reasonNumber r) ∷ pos (reasonField r) ∷ replicate 11 (pos 0)
@@ -70,7 +72,7 @@ module _ (bytes table : List ℕ) (small : Bytes bytes) where
   -- and no other answer has them.
   pub answered-exactly : (f : Figures)
       → (designOf bytes table ≡ Answered f)
-      ↔ (((number : ℕ) → ¬ Row bytes table number) × FiguresAre (sheetIn bytes) (levelIn (sheetIn bytes) table) f)
+      ↔ (None (rows bytes table) × FiguresAre (sheetIn bytes) (levelIn (sheetIn bytes) table) f)
   answered-exactly = figures-exactly bytes table small
 
 -- A sheet has one row of figures at a level.
@@ -106,20 +108,16 @@ never-easier =
 
 -- The numbers that turn a sheet away
 module _ (bytes table : List ℕ) (small : Bytes bytes) where
-  -- A number is given exactly when its row holds and none checked before it does.
-  pub number-given : (number : ℕ) → 1 ≤ number → (codeOf (designOf bytes table) ≡ number) ↔ (Row bytes table number × NoneBefore bytes table number)
-  number-given = number-exactly bytes table small
-
-  -- Every other call is answered.
-  pub else-answered : (codeOf (designOf bytes table) ≡ 0) ↔ ((number : ℕ) → ¬ Row bytes table number)
-  else-answered = zero-exactly bytes table small
+  -- A number is given exactly when its row holds and none checked before it does; every other call is answered.
+  pub number-given : Exactly (rows bytes table) (codeOf (designOf bytes table))
+  number-given = design-exactly bytes table small
 
   -- 3: the first bad field's number is given.
-  pub first-bad-field : (k : ℕ) → (designOf bytes table ≡ Refused (BadField k)) ↔ (Least (Bad (groupsOf bytes)) k × NoneBefore bytes table 3)
+  pub first-bad-field : (k : ℕ) → (designOf bytes table ≡ Refused (BadField k)) ↔ (Least (Bad (groupsOf bytes)) k × NoneBefore (rows bytes table) 3)
   first-bad-field = field-exactly bytes table small
 
 -- Past 4, 5 and 6 the sheet has its level: its own, or the one read off the table.
-pub level-is-had : (bytes table : List ℕ) → NoneBefore bytes table 7
+pub level-is-had : (bytes table : List ℕ) → NoneBefore (rows bytes table) 7
     → levelFor (sheetIn bytes .level) (designLevel table) ≡ LevelFound (levelIn (sheetIn bytes) table)
 level-is-had = level-read
 

@@ -2,17 +2,18 @@
 -- Assumes nothing.
 use mathlib.Core.Path.{_≡_, refl, sym, ap}
 use mathlib.Core.Bool.{Bool, true, false, _&&_}
-use mathlib.Core.List.{List}
+use mathlib.Core.List.{List, [], _∷_}
 use Prim.Native.Nat.{ℕ}
 use native.Mathlib.Omega.{arith}
 use Rattle.sheet.specs.declared.Sheet.{Sheet}
 use Rattle.sheet.specs.declared.LevelSource.{LevelSource}
 use Rattle.sheet.specs.declared.LevelSource.the-variants.{FromRecord, Given}
-use Rattle.gauge.specs.Designing.{designLevel, levelNumber, TableUnfit, RecordShort, RangeWide}
+use Rattle.laws.specs.Rows.{Row, _when_}
+use Rattle.laws.proofs.Rows.{Told, stop, past, Call}
+use Rattle.gauge.specs.Designing.{designLevel, levelNumber, levelRows}
 use Rattle.gauge.specs.declared.LevelRead.{LevelRead}
-use Rattle.gauge.specs.declared.LevelRead.the-variants.{Found as LevelFound, WrongTable as TableWrong, TooFewReadings as FewReadings, RangeTooWide as WideRange}
-use Rattle.gauge.proofs.Designing.{LevelOutcome, has-wrong-length, has-slot-over, has-too-few, has-wide-range, has-level, level-comes-to}
-use Rattle.gauge.proofs.Refusals.{level-exactly}
+use Rattle.gauge.specs.declared.LevelRead.the-variants.{Found as LevelFound}
+use Rattle.gauge.proofs.Refusals.{NoLevel, levels, level-told as levels-told}
 use Rattle.lanes.specs.declared.Lanes.{Lanes}
 use Rattle.lanes.specs.declared.Lanes.the-variants.{One}
 use Rattle.width.specs.Bands.{waterOf, speedBandOf, crossEntry, waveEntry, hasEntry, hasEntries}
@@ -29,36 +30,27 @@ use Rattle.design.specs.Design.{levelFor, widthStretch}
 use Rattle.design.specs.Refusals.{levelFrom, OffRecord, TightBend, EntryMissing}
 
 -- 4, 5, 6: the level of a source, over a table
-pub data LevelTold (source : LevelSource) (table : List ℕ) : LevelRead → Type 0 where
-  unfit : OffRecord source (TableUnfit table) → LevelTold source table TableWrong
-  short : ¬ OffRecord source (TableUnfit table) → OffRecord source (RecordShort table) → LevelTold source table FewReadings
-  wide-range : ¬ OffRecord source (TableUnfit table) → ¬ OffRecord source (RecordShort table) → OffRecord source (RangeWide table)
-      → LevelTold source table WideRange
-  had : ¬ OffRecord source (TableUnfit table) → ¬ OffRecord source (RecordShort table) → ¬ OffRecord source (RangeWide table)
-      → LevelTold source table (LevelFound (levelFrom source table))
+abbrev pub levelsFrom : LevelSource → List ℕ → Call LevelRead
+levelsFrom source table = record { number = levelNumber; answered = λ r. r ≡ LevelFound (levelFrom source table); refused = NoLevel }
 
-off-record : {Fault : Type 0} → Fault → OffRecord FromRecord Fault
-off-record fault = record { off = refl; fault = fault }
+-- the rows of a level, when it is read off the record
+abbrev pub offRecord : LevelSource → List Row → List Row
+offRecord source [] = []
+offRecord source (row ∷ rows) = (row .number when OffRecord source (row .holds)) ∷ offRecord source rows
 
-pub level-told : (source : LevelSource) (table : List ℕ) → LevelTold source table (levelFor source (designLevel table))
-level-told (Given level) table = had given given given
+off-told : (table : List ℕ) (rows : List Row) (read : LevelRead) → Told (levels table) rows read
+    → Told (levelsFrom FromRecord table) (offRecord FromRecord rows) read
+off-told table [] read told = told
+off-told table (row ∷ rows) read (stop fault stops) = stop (record { off = refl; fault = fault }) stops
+off-told table (row ∷ rows) read (past none later) = past (λ o. none (o .fault)) (off-told table rows read later)
+
+pub level-told : (source : LevelSource) (table : List ℕ)
+    → Told (levelsFrom source table) (offRecord source (levelRows table)) (levelFor source (designLevel table))
+level-told (Given level) table = past given (past given (past given (refl, refl)))
   where
     given : {Fault : Type 0} → ¬ OffRecord (Given level) Fault
     given o = let off = o .off in let x : _≡_ {A = ℕ} 0 1 = cc in omega arith
-level-told FromRecord table = go (level-comes-to table)
-  where
-    go : LevelOutcome table → LevelTold FromRecord table (designLevel table)
-    go (has-wrong-length w e) = rw (← e) (unfit (off-record (level-exactly table .first-row .0 (ap levelNumber (sym e)))))
-    go (has-slot-over l o e) = rw (← e) (unfit (off-record (level-exactly table .first-row .0 (ap levelNumber (sym e)))))
-    go (has-too-few l o h e) =
-        let t = level-exactly table .second-row .0 (ap levelNumber (sym e)) in
-        rw (← e) (short (λ f. t .0 (f .fault)) (off-record (t .1)))
-    go (has-wide-range l o h w e) =
-        let t = level-exactly table .third-row .0 (ap levelNumber (sym e)) in
-        rw (← e) (wide-range (λ f. t .0 (f .fault)) (λ f. t .1 (f .fault)) (off-record (t .2)))
-    go (has-level l o h w e) =
-        let t = level-exactly table .no-row .0 (ap levelNumber (sym e)) in
-        rw (← e) (had (λ f. t .0 (f .fault)) (λ f. t .1 (f .fault)) (λ f. t .2 (f .fault)))
+level-told FromRecord table = off-told table (levelRows table) (designLevel table) (levels-told table)
 
 -- 7: the bend
 pub data BendTold (s : Sheet) : Bend → Type 0 where

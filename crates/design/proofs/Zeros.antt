@@ -1,18 +1,22 @@
 -- The thirteen numbers begin with the code and the field, which name one reason; the eleven figures after them are 0 when refused.
 -- Assumes nothing.
-use mathlib.Core.Path.{_≡_, refl, sym, ap₂, _∙_}
-use mathlib.Core.List.{[], _∷_}
-use mathlib.Core.Logic.{inl, inr, _≢_}
+use mathlib.Core.Path.{_≡_, refl, sym, ap₂, subst, _∙_}
+use mathlib.Core.Bool.{Bool, true, false, not, _&&_}
+use mathlib.Core.List.{List, [], _∷_}
+use mathlib.Core.Logic.{_⊎_, inl, inr, _≢_}
 use Prim.Native.Nat.{ℕ, _≤_}
 use native.Mathlib.Omega.{arith}
+use borrow.Author.Tests.{eqb-true}
+use lib.Dec.{T}
 use lib.IntN.{pos}
 use lib.ListN.{length, take, replicate}
 use Rattle.laws.specs.Choice.{if_then_else_, _=ᵇ_}
+use Rattle.laws.specs.Rows.{Row, Listed}
+use Rattle.laws.proofs.Rows.{absent}
 use Rattle.datum.specs.Datum.{levelOf}
 use Rattle.depth.specs.declared.Fault.the-variants.{NoSquatEntry, SiltOver, CutOver}
-use Rattle.depth.proofs.Findings.{fault-known}
 use Rattle.design.specs.Numbers.{reasonNumber, reasonField, laneNumber, numbersOf}
-use Rattle.design.specs.Refusals.{codeOf, fieldOf, CodeKnown}
+use Rattle.design.specs.Refusals.{rows, codeOf, fieldOf}
 use Rattle.design.specs.declared.Figures.{Figures}
 use Rattle.design.specs.declared.Reason.{Reason}
 use Rattle.design.specs.declared.Reason.the-variants.{WrongLength, SpareBitSet, BadField, WrongTable, TooFewReadings, RangeTooWide, BendTooTight, NoWidthEntry, NoDepth}
@@ -35,29 +39,45 @@ unfolding numbersOf
 code-and-field (Answered f) = refl
 code-and-field (Refused r) = refl
 
--- the numbers that turn a design away: 1 to 8, 13, 14 and 15
-reason-known : (r : Reason) → CodeKnown (reasonNumber r)
-reason-known WrongLength = inl (omega arith)
-reason-known SpareBitSet = inl (omega arith)
-reason-known (BadField k) = inl (omega arith)
-reason-known WrongTable = inl (omega arith)
-reason-known TooFewReadings = inl (omega arith)
-reason-known RangeTooWide = inl (omega arith)
-reason-known BendTooTight = inl (omega arith)
-reason-known NoWidthEntry = inl (omega arith)
-reason-known (NoDepth fault) = inr (fault-known fault)
+-- each reason's number is that of a row, whatever the bytes and the table
+reason-present : (bytes table : List ℕ) (r : Reason) → T (not (absent (reasonNumber r) (rows bytes table)))
+unfolding rows
+reason-present bytes table WrongLength = tt
+reason-present bytes table SpareBitSet = tt
+reason-present bytes table (BadField k) = tt
+reason-present bytes table WrongTable = tt
+reason-present bytes table TooFewReadings = tt
+reason-present bytes table RangeTooWide = tt
+reason-present bytes table BendTooTight = tt
+reason-present bytes table NoWidthEntry = tt
+reason-present bytes table (NoDepth NoSquatEntry) = tt
+reason-present bytes table (NoDepth SiltOver) = tt
+reason-present bytes table (NoDepth CutOver) = tt
 
-pub code-known : (a : Answer) → CodeKnown (codeOf a)
-code-known (Answered f) = inl (omega arith)
-code-known (Refused r) = reason-known r
-
--- so 9, 10, 11 and 12 are given by no design
-pub code-never : (a : Answer) (number : ℕ) → 9 ≤ number → number ≤ 12 → codeOf a ≢ number
-code-never a number from to e = go (code-known a)
+-- (this law and the next belong in `laws`)
+present-listed : (number : ℕ) (list : List Row) → T (not (absent number list)) → Listed list number
+present-listed number [] t = t
+present-listed number (row ∷ list) t = go (number =ᵇ row .number) refl t (present-listed number list)
   where
-    go : ¬ CodeKnown (codeOf a)
-    go (inl low) = omega arith
-    go (inr high) = omega arith
+    go : (b : Bool) → (number =ᵇ row .number) ≡ b → T (not (not b && absent number list)) → (T (not (absent number list)) → Listed list number)
+        → (number ≡ row .number) ⊎ Listed list number
+    go true e t rest = inl (eqb-true number (row .number) e)
+    go false e t rest = inr (rest t)
+
+not-both : (b : Bool) → T b → T (not b) → ⊥
+not-both true t u = u
+not-both false t u = t
+
+module _ (bytes table : List ℕ) where
+  pub code-listed : (a : Answer) → (codeOf a ≡ 0) ⊎ Listed (rows bytes table) (codeOf a)
+  code-listed (Answered f) = inl refl
+  code-listed (Refused r) = inr (present-listed (reasonNumber r) (rows bytes table) (reason-present bytes table r))
+
+  pub code-never : (a : Answer) (number : ℕ) → 1 ≤ number → T (absent number (rows bytes table)) → codeOf a ≢ number
+  code-never (Answered f) number some none e = omega arith
+  code-never (Refused r) number some none e =
+      not-both (absent number (rows bytes table)) none
+      (subst (λ (n : ℕ). T (not (absent n (rows bytes table)))) e (reason-present bytes table r))
 
 -- the field is 0 unless the number is 3
 field-zero : (r : Reason) → reasonNumber r ≢ 3 → reasonField r ≡ 0

@@ -2,23 +2,28 @@
 -- Assumes nothing.
 use mathlib.Core.Path.{_≡_, refl, ap, sym, _∙_}
 use mathlib.Core.Bool.{Bool, true, false}
-use mathlib.Core.List.{List, _++_}
+use mathlib.Core.List.{List, [], _++_}
 use mathlib.Core.Logic.{_↔_}
 use Prim.Native.Nat.{ℕ, _*_, _≤_, _<_}
 use native.Mathlib.Omega.{arith}
-use borrow.Author.Tests.{lt-ltb, le-ltb, ltb-true}
+use borrow.Author.Tests.{lt-ltb, le-ltb, ltb-true, ltb-false}
 use lib.Dec.{ltb}
 use lib.IntN.{ℤ}
 use lib.ListN.{length, take, drop}
 use lib.Seq.{drop-at, take-at}
 use Rattle.laws.specs.Choice.{if_then_else_}
+use Rattle.laws.specs.Rows.{_when_, Exactly}
+use Rattle.laws.proofs.Rows.{bare, exactly, tested, bared}
+use Rattle.sheet.specs.Packing.{Bytes}
+use Rattle.design.specs.Design.{designOf}
 use Rattle.design.specs.Numbers.{numbersOf}
-use Rattle.design.specs.Refusals.{codeOf}
+use Rattle.design.specs.Refusals.{rows, codeOf}
 use Rattle.design.specs.declared.Answer.{Answer}
+use Rattle.design.proofs.Checked.{designs, told}
 use Rattle.design.proofs.Zeros.{code-never}
-use Rattle.design.proofs.Promises.{thirteen-numbers}
+use Rattle.design.proofs.Promises.{no-table, thirteen-numbers}
 use Rattle.plan.specs.Words.{bytesOfNumbers}
-use Rattle.plan.specs.Plan.{needed, planned, planNumber, planPlace}
+use Rattle.plan.specs.Plan.{needed, planned, planNumber, planPlace, planRows}
 use Rattle.plan.proofs.Placing.{bytes-length}
 
 module _ (sheet place : List ℕ) where
@@ -35,13 +40,22 @@ module _ (sheet place : List ℕ) where
       (c ∙ ap codeOf e, l ∙ ap (λ (z : List ℤ). bytesOfNumbers z ++ drop needed place) (n ∙ ap numbersOf e))
 
   pub twelve-exactly : (planNumber sheet place ≡ 12) ↔ (length place < needed)
-  unfolding planNumber
+  unfolding planNumber rows
   twelve-exactly = ((λ e. go (ltb (length place) needed) refl e), (λ h. sym (too-small h .0)))
     where
       go : (b : Bool) → ltb (length place) needed ≡ b → (if b then 12 else codeOf (planned sheet)) ≡ 12 → length place < needed
       go true p e = ltb-true _ _ p
       -- no design is refused by 12
-      go false p e = absurd (code-never (planned sheet) 12 (omega arith) (omega arith) e)
+      go false p e = absurd (code-never sheet [] (planned sheet) 12 (omega arith) tt e)
+
+  -- 12, then the rows of a design
+  pub number-exactly : Bytes sheet → Exactly (planRows sheet place) (planNumber sheet place)
+  unfolding planNumber rows
+  number-exactly small =
+      exactly (bare (λ (n : ℕ). n)) (planRows sheet place) tt (planNumber sheet place)
+      (tested (bare (λ (n : ℕ). n)) (12 when (length place < needed)) (rows sheet []) (ltb (length place) needed) 12 (codeOf (planned sheet))
+      (ltb-true (length place) needed) (λ e h. omega (arith, ltb-false (length place) needed e)) (refl, tt)
+      (rw no-table (bared (designs sheet []) (rows sheet []) (designOf sheet []) (told sheet [] small))))
 
   pub code-with-room : needed ≤ length place → planNumber sheet place ≡ codeOf (planned sheet)
   unfolding planNumber

@@ -5,16 +5,22 @@ use mathlib.Core.List.{List}
 use mathlib.Core.Logic.{_↔_}
 use Prim.Native.Nat.{ℕ, _≤_, _<_}
 use lib.ListN.{length, take, drop}
+use Rattle.laws.specs.Rows.{Exactly}
 use Rattle.laws.proofs.Unique.{one-answer}
+use Rattle.sheet.specs.Packing.{Bytes}
 use Rattle.design.specs.Numbers.{numbersOf}
 use Rattle.design.specs.Refusals.{codeOf}
 use Rattle.plan.specs.Words.{bytesOfNumbers}
-use Rattle.plan.specs.Plan.{needed, planned, planNumber, planPlace}
-use Rattle.plan.proofs.Planning.{too-small, twelve-exactly, code-with-room, numbers-first, later-stay}
+use Rattle.plan.specs.Plan.{needed, planned, planNumber, planPlace, planRows}
+use Rattle.plan.proofs.Planning.{too-small, twelve-exactly, number-exactly, code-with-room, numbers-first, later-stay}
 
 -- 12, tested first: a place under 52 bytes.
 pub number-12 : (sheet place : List ℕ) → (planNumber sheet place ≡ 12) ↔ (length place < needed)
 number-12 = twelve-exactly
+
+-- A number is given exactly when its row holds and none checked before it does: 12, a place under 52 bytes, and then those of a design.
+pub number-given : (sheet place : List ℕ) → Bytes sheet → Exactly (planRows sheet place) (planNumber sheet place)
+number-given = number-exactly
 
 -- Nothing is written then.
 pub nothing-written : (sheet place : List ℕ) → length place < needed → place ≡ planPlace sheet place

@@ -6,10 +6,12 @@ use mathlib.Core.Logic.{_↔_}
 use Prim.Native.Nat.{ℕ, _≤_, _<_}
 use lib.ListN.{length, take, drop}
 use Rattle.laws.specs.Extremes.{Least}
+use Rattle.laws.specs.Rows.{NoneBefore, Exactly}
 use Rattle.laws.proofs.Unique.{one-answer}
 use Rattle.sheet.specs.Fields.{Bad}
 use Rattle.sheet.specs.Packing.{size, groupsOf, bytesOf, bitsOfBytes, bitsOfGroups, Bytes, SpareSet}
 use Rattle.sheet.specs.Sheets.{figuresOf, readOf, writtenOf, placeOf, Valid}
+use Rattle.sheet.specs.Refusals.{readRows, writtenRows, readNumber, writtenNumber}
 use Rattle.sheet.specs.declared.Sheet.{Sheet}
 use Rattle.sheet.specs.declared.SheetRead.{SheetRead}
 use Rattle.sheet.specs.declared.SheetRead.the-variants.{Good, WrongLength, SpareBitSet, BadField}
@@ -17,31 +19,21 @@ use Rattle.sheet.specs.declared.SheetWritten.{SheetWritten}
 use Rattle.sheet.specs.declared.SheetWritten.the-variants.{Done, PlaceTooSmall, BadField as BadFieldToWrite}
 use Rattle.sheet.proofs.Packed.{packed}
 use Rattle.sheet.proofs.OneWriting.{one-writing, read-place, Written, written-read}
-use Rattle.sheet.proofs.Reading.{wrong-length-exactly, spare-exactly, bad-field-exactly, good-exactly}
-use Rattle.sheet.proofs.Writing.{too-small-exactly, bad-to-write-exactly, done-exactly, refused-unchanged, past-unchanged}
+use Rattle.sheet.proofs.Reading.{read-exactly, bad-field-exactly}
+use Rattle.sheet.proofs.Writing.{written-exactly, bad-to-write-exactly, refused-unchanged, past-unchanged}
 use Rattle.sheet.proofs.CaseS.{sheetS, bytesS, s-read, s-written}
 
 -- Fields packed most significant bit first: the bytes' bits in a row are the fields' bits in a row, then the spare bits.
 pub fields-in-a-row : (bytes : List ℕ) → Bytes bytes → bitsOfBytes bytes ≡ bitsOfGroups (groupsOf bytes)
 fields-in-a-row = packed
 
--- 1: not 28 bytes.
-pub number-1 : (bytes : List ℕ) → (readOf bytes ≡ WrongLength) ↔ (length bytes ≡ size → ⊥)
-number-1 = wrong-length-exactly
+-- Reading: a number is given exactly when its row holds and none checked before it does; every other string of bytes is a sheet.
+pub read-number : (bytes : List ℕ) → Bytes bytes → Exactly (readRows bytes) (readNumber (readOf bytes))
+read-number = read-exactly
 
--- 2: a spare bit set, and not 1.
-pub number-2 : (bytes : List ℕ) → Bytes bytes → (readOf bytes ≡ SpareBitSet) ↔ ((length bytes ≡ size) × SpareSet bytes)
-number-2 = spare-exactly
-
--- 3: a bad field, and neither 1 nor 2; the first one's number is given.
-pub number-3 : (bytes : List ℕ) → Bytes bytes → (k : ℕ)
-    → (readOf bytes ≡ BadField k) ↔ ((length bytes ≡ size) × (SpareSet bytes → ⊥) × Least (Bad (groupsOf bytes)) k)
+-- 3: the first bad field's number is given.
+pub number-3 : (bytes : List ℕ) → Bytes bytes → (k : ℕ) → (readOf bytes ≡ BadField k) ↔ (Least (Bad (groupsOf bytes)) k × NoneBefore (readRows bytes) 3)
 number-3 = bad-field-exactly
-
--- Every other string of bytes is a sheet.
-pub else-a-sheet : (bytes : List ℕ) → Bytes bytes
-    → ((s : Sheet) × (readOf bytes ≡ Good s)) ↔ ((length bytes ≡ size) × (SpareSet bytes → ⊥) × ((k : ℕ) → Bad (groupsOf bytes) k → ⊥))
-else-a-sheet = good-exactly
 
 -- What is read is a valid sheet, and the bytes are its writing.
 pub read-is-valid : (bytes : List ℕ) (s : Sheet) → Bytes bytes → readOf bytes ≡ Good s → Written bytes s
@@ -55,18 +47,14 @@ written-and-read = read-place
 pub each-one-writing : (a b : List ℕ) (s : Sheet) → Bytes a → Bytes b → readOf a ≡ Good s → readOf b ≡ Good s → a ≡ b
 each-one-writing = one-writing
 
--- 12, tested first: a place lent for writing too small.
-pub number-12 : (s : Sheet) (place : List ℕ) → (writtenOf s place ≡ PlaceTooSmall) ↔ (length place < size)
-number-12 = too-small-exactly
+-- Writing: a number is given exactly when its row holds and none checked before it does; every other writing is done.
+pub written-number : (s : Sheet) (place : List ℕ) → Exactly (writtenRows s place) (writtenNumber (writtenOf s place))
+written-number = written-exactly
 
--- 3 in writing: a bad field, and not 12; the first one's number is given.
+-- 3 in writing: the first bad field's number is given.
 pub number-3-written : (s : Sheet) (place : List ℕ) (k : ℕ)
-    → (writtenOf s place ≡ BadFieldToWrite k) ↔ ((size ≤ length place) × Least (Bad (figuresOf s)) k)
+    → (writtenOf s place ≡ BadFieldToWrite k) ↔ (Least (Bad (figuresOf s)) k × NoneBefore (writtenRows s place) 3)
 number-3-written = bad-to-write-exactly
-
--- Every other writing is done.
-pub else-done : (s : Sheet) (place : List ℕ) → (writtenOf s place ≡ Done) ↔ ((size ≤ length place) × ((k : ℕ) → Bad (figuresOf s) k → ⊥))
-else-done = done-exactly
 
 -- A refused writing changes no byte.
 pub refused-changes-nothing : (s : Sheet) (place : List ℕ) → (writtenOf s place ≡ Done → ⊥) → placeOf s place ≡ place

@@ -1,6 +1,6 @@
 -- Each answer of reading, and exactly when it is given.
 -- Assumes nothing.
-use mathlib.Core.Path.{_≡_, refl, sym, _∙_}
+use mathlib.Core.Path.{_≡_, refl, ap}
 use mathlib.Core.Bool.{Bool, true, false}
 use mathlib.Core.List.{List}
 use mathlib.Core.Logic.{_↔_}
@@ -11,13 +11,15 @@ use lib.Dec.{eqb}
 use lib.ListN.{length}
 use Rattle.laws.specs.Choice.{if_then_else_}
 use Rattle.laws.specs.Extremes.{Least}
+use Rattle.laws.specs.Rows.{NoneBefore, Exactly}
+use Rattle.laws.proofs.Extremes.{least-only}
+use Rattle.laws.proofs.Rows.{Told, stop, past, Call, exactly, refusal-exactly}
 use Rattle.sheet.specs.Fields.{count, nth, firstBad, Bad}
-use Rattle.sheet.specs.Packing.{size, groupsOf, Bytes, SpareSet}
+use Rattle.sheet.specs.Packing.{size, groupsOf, Bytes}
+use Rattle.sheet.specs.Refusals.{readRows, readNumber}
 use Rattle.sheet.specs.Sheets.{sheetOf, readGroups, readOf}
-use Rattle.sheet.specs.declared.Sheet.{Sheet}
 use Rattle.sheet.specs.declared.SheetRead.{SheetRead}
 use Rattle.sheet.specs.declared.SheetRead.the-variants.{Good, WrongLength, SpareBitSet, BadField}
-use Rattle.sheet.proofs.Answers.{read-length, read-spare, read-bad, read-good}
 use Rattle.sheet.proofs.BadFields.{first-least, none-bad}
 use Rattle.sheet.proofs.Spare.{spare-set}
 
@@ -42,68 +44,40 @@ why b = go (eqb (length b) size) (eqb (nth v count) 0) (eqb (firstBad v) 0) refl
     go true false n p q r = spare-bit (eqb-true _ _ p) (eqb-false _ _ q)
     go false z n p q r = wrong-length (eqb-false _ _ p)
 
-zero-or-not : (n : ℕ) → ((n ≡ 0 → ⊥) → ⊥) → n ≡ 0
-zero-or-not n h = go (eqb n 0) refl
-  where
-    go : (b : Bool) → eqb n 0 ≡ b → n ≡ 0
-    go true e = eqb-true n 0 e
-    go false e = absurd (h (eqb-false n 0 e))
+-- what is told of a reading: a sheet is that of the bytes' groups, and a bad field that is named is the first
+abbrev pub Unread : List ℕ → SheetRead → Type 0
+Unread b (Good s) = ⊥
+Unread b WrongLength = Unit {0}
+Unread b SpareBitSet = Unit {0}
+Unread b (BadField k) = Least (Bad (groupsOf b)) k
 
-module _ (b : List ℕ) where
-  -- 1 exactly when there are not 28 bytes
-  pub wrong-length-exactly : (readOf b ≡ WrongLength) ↔ (length b ≡ size → ⊥)
-  wrong-length-exactly = ((λ e. go (readOf b) (why b) e), (λ h. sym (read-length b h)))
+abbrev pub reads : List ℕ → Call SheetRead
+reads b = record { number = readNumber; answered = λ r. r ≡ Good (sheetOf (groupsOf b)); refused = Unread b }
+
+module _ (b : List ℕ) (small : Bytes b) where
+  pub read-told : Told (reads b) (readRows b) (readOf b)
+  read-told = go (readOf b) (why b)
     where
-      go : (r : SheetRead) → Why b r → r ≡ WrongLength → length b ≡ size → ⊥
-      go r (wrong-length h) e = h
-      go r (spare-bit l z) e = let x : _≡_ {A = ℕ} 0 1 = cc in absurd (omega arith)
-      go r (bad-field k l z f n) e = let x : _≡_ {A = ℕ} 0 1 = cc in absurd (omega arith)
-      go r (good l z f) e = let x : _≡_ {A = ℕ} 0 1 = cc in absurd (omega arith)
+      go : (r : SheetRead) → Why b r → Told (reads b) (readRows b) r
+      go r (wrong-length h) = stop h (refl, tt)
+      go r (spare-bit l z) = past (λ h. h l) (stop (spare-set b small .1 z) (refl, tt))
+      go r (bad-field k l z f n) =
+          let least = first-least (groupsOf b) k .0 (f, n) in
+          past (λ h. h l) (past (λ w. spare-set b small .0 w z) (stop (record { field = k; bad = least .holds }) (refl, least)))
+      go r (good l z f) =
+          past (λ h. h l) (past (λ w. spare-set b small .0 w z) (past (λ s. none-bad (groupsOf b) .0 f (s .field) (s .bad)) (refl, refl)))
 
-  module _ (small : Bytes b) where
-    clear : (SpareSet b → ⊥) → nth (groupsOf b) count ≡ 0
-    clear h = zero-or-not _ (λ n. h (spare-set b small .1 n))
+  pub read-exactly : Exactly (readRows b) (readNumber (readOf b))
+  read-exactly = exactly (reads b) (readRows b) tt (readOf b) read-told
 
-    -- 2 exactly when there are 28 and a spare bit is set
-    pub spare-exactly : (readOf b ≡ SpareBitSet) ↔ ((length b ≡ size) × SpareSet b)
-    spare-exactly =
-        ((λ e. go (readOf b) (why b) e), (λ h. sym (read-spare b (groupsOf b) (h .0) refl (spare-set b small .0 (h .1)))))
-      where
-        go : (r : SheetRead) → Why b r → r ≡ SpareBitSet → (length b ≡ size) × SpareSet b
-        go r (wrong-length h) e = let x : _≡_ {A = ℕ} 0 1 = cc in absurd (omega arith)
-        go r (spare-bit l z) e = (l, spare-set b small .1 z)
-        go r (bad-field k l z f n) e = let x : _≡_ {A = ℕ} 0 1 = cc in absurd (omega arith)
-        go r (good l z f) e = let x : _≡_ {A = ℕ} 0 1 = cc in absurd (omega arith)
-
-    -- 3 with k exactly when neither holds and k is the least bad field
-    pub bad-field-exactly : (k : ℕ) → (readOf b ≡ BadField k) ↔ ((length b ≡ size) × (SpareSet b → ⊥) × Least (Bad (groupsOf b)) k)
-    bad-field-exactly k = (
-      (λ e. go (readOf b) (why b) e),
-      (λ h. let f = first-least (groupsOf b) k .1 (h .2) in
-          sym (read-bad b (groupsOf b) (h .0) refl k (clear (h .1)) (sym (f .0)) (f .1))),
-    )
-      where
-        go : (r : SheetRead) → Why b r → r ≡ BadField k → (length b ≡ size) × (SpareSet b → ⊥) × Least (Bad (groupsOf b)) k
-        go r (wrong-length h) e = let x : _≡_ {A = ℕ} 0 1 = cc in absurd (omega arith)
-        go r (spare-bit l z) e = let x : _≡_ {A = ℕ} 0 1 = cc in absurd (omega arith)
-        go r (bad-field j l z f n) e =
-            let x : j ≡ k = cc in
-            (l, (λ s. spare-set b small .0 s z), first-least (groupsOf b) k .0 (f ∙ x, λ w. n (x ∙ w)))
-        go r (good l z f) e = let x : _≡_ {A = ℕ} 0 1 = cc in absurd (omega arith)
-
-    -- a sheet exactly when none of the three holds
-    pub good-exactly : ((s : Sheet) × (readOf b ≡ Good s)) ↔ ((length b ≡ size) × (SpareSet b → ⊥) × ((k : ℕ) → Bad (groupsOf b) k → ⊥))
-    good-exactly = (
-      (λ g. go (g .0) (readOf b) (why b) (g .1)),
-      (λ h. (
-        sheetOf (groupsOf b),
-        sym (read-good b (groupsOf b) (h .0) refl 0 _ (clear (h .1)) (sym (none-bad (groupsOf b) .1 (h .2))) refl refl),
-      )),
-    )
-      where
-        go : (s : Sheet) (r : SheetRead) → Why b r → r ≡ Good s
-            → (length b ≡ size) × (SpareSet b → ⊥) × ((k : ℕ) → Bad (groupsOf b) k → ⊥)
-        go s r (wrong-length h) e = let x : _≡_ {A = ℕ} 0 1 = cc in absurd (omega arith)
-        go s r (spare-bit l z) e = let x : _≡_ {A = ℕ} 0 1 = cc in absurd (omega arith)
-        go s r (bad-field j l z f n) e = let x : _≡_ {A = ℕ} 0 1 = cc in absurd (omega arith)
-        go s r (good l z f) e = (l, (λ w. spare-set b small .0 w z), none-bad (groupsOf b) .0 f)
+  -- 3 with k exactly when k is the least bad field, and neither 1 nor 2
+  pub bad-field-exactly : (k : ℕ) → (readOf b ≡ BadField k) ↔ (Least (Bad (groupsOf b)) k × NoneBefore (readRows b) 3)
+  bad-field-exactly k =
+      refusal-exactly (reads b) (readRows b) tt (readOf b) read-told (BadField k) (omega arith)
+      (λ least. record { field = k; bad = least .holds }) (only (readOf b))
+    where
+      only : (r : SheetRead) → readNumber r ≡ 3 → Unread b r → Least (Bad (groupsOf b)) k → r ≡ BadField k
+      only (Good s) e u l = absurd u
+      only WrongLength e u l = absurd (omega arith)
+      only SpareBitSet e u l = absurd (omega arith)
+      only (BadField j) e u l = ap BadField (least-only (Bad (groupsOf b)) j k u l)

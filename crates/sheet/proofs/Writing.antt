@@ -1,6 +1,6 @@
 -- Each answer of writing, exactly when it is given, and what the place then holds.
 -- Assumes nothing.
-use mathlib.Core.Path.{_≡_, refl, sym, _∙_}
+use mathlib.Core.Path.{_≡_, refl, ap}
 use mathlib.Core.Bool.{Bool, true, false}
 use mathlib.Core.List.{List, _++_}
 use mathlib.Core.Logic.{_↔_}
@@ -12,13 +12,16 @@ use lib.ListN.{length, drop, length-append, length-drop}
 use lib.Seq.{drop-at}
 use Rattle.laws.specs.Choice.{if_then_else_}
 use Rattle.laws.specs.Extremes.{Least}
+use Rattle.laws.specs.Rows.{NoneBefore, Exactly}
+use Rattle.laws.proofs.Extremes.{least-only}
+use Rattle.laws.proofs.Rows.{Told, stop, past, Call, exactly, refusal-exactly}
 use Rattle.sheet.specs.Fields.{firstBad, Bad}
 use Rattle.sheet.specs.Packing.{size, bytesOf}
 use Rattle.sheet.specs.Sheets.{figuresOf, writtenOf, placeOf}
+use Rattle.sheet.specs.Refusals.{writtenRows, writtenNumber}
 use Rattle.sheet.specs.declared.Sheet.{Sheet}
 use Rattle.sheet.specs.declared.SheetWritten.{SheetWritten}
 use Rattle.sheet.specs.declared.SheetWritten.the-variants.{Done, PlaceTooSmall, BadField as BadFieldToWrite}
-use Rattle.sheet.proofs.Answers.{write-small, write-bad, write-done}
 use Rattle.sheet.proofs.BadFields.{first-least, none-bad}
 use Rattle.sheet.proofs.OneWriting.{bytes-length}
 
@@ -42,39 +45,39 @@ wrote s place = go (ltb (length place) size) (eqb (firstBad v) 0) refl refl
     go false true p q = done (ltb-false _ _ p) (eqb-true _ _ q)
     go false false p q = bad-field (firstBad v) (ltb-false _ _ p) refl (eqb-false _ _ q)
 
+-- what is told of a writing: a bad field that is named is the first
+abbrev pub Unwritten : Sheet → SheetWritten → Type 0
+Unwritten s Done = ⊥
+Unwritten s PlaceTooSmall = Unit {0}
+Unwritten s (BadFieldToWrite k) = Least (Bad (figuresOf s)) k
+
+abbrev pub writes : Sheet → Call SheetWritten
+writes s = record { number = writtenNumber; answered = λ w. w ≡ Done; refused = Unwritten s }
+
 module _ (s : Sheet) (place : List ℕ) where
-  -- 12 exactly when the place has not 28 bytes
-  pub too-small-exactly : (writtenOf s place ≡ PlaceTooSmall) ↔ (length place < size)
-  too-small-exactly = ((λ e. go (writtenOf s place) (placeOf s place) (wrote s place) e), (λ h. sym (write-small s place h .0)))
+  pub written-told : Told (writes s) (writtenRows s place) (writtenOf s place)
+  written-told = go (writtenOf s place) (placeOf s place) (wrote s place)
     where
-      go : (w : SheetWritten) (o : List ℕ) → Wrote s place w o → w ≡ PlaceTooSmall → length place < size
-      go w o (too-small h) e = h
-      go w o (bad-field k l f n) e = let x : _≡_ {A = ℕ} 0 1 = cc in absurd (omega arith)
-      go w o (done l f) e = let x : _≡_ {A = ℕ} 0 1 = cc in absurd (omega arith)
+      go : (w : SheetWritten) (o : List ℕ) → Wrote s place w o → Told (writes s) (writtenRows s place) w
+      go w o (too-small l) = stop l (refl, tt)
+      go w o (bad-field k l f n) =
+          let least = first-least (figuresOf s) k .0 (f, n) in
+          past (λ h. omega arith) (stop (record { field = k; bad = least .holds }) (refl, least))
+      go w o (done l f) = past (λ h. omega arith) (past (λ r. none-bad (figuresOf s) .0 f (r .field) (r .bad)) (refl, refl))
 
-  -- 3 with k exactly when it has, and k is the least bad field
-  pub bad-to-write-exactly : (k : ℕ) → (writtenOf s place ≡ BadFieldToWrite k) ↔ ((size ≤ length place) × Least (Bad (figuresOf s)) k)
-  bad-to-write-exactly k = (
-    (λ e. go (writtenOf s place) (placeOf s place) (wrote s place) e),
-    (λ h. let f = first-least (figuresOf s) k .1 (h .1) in sym (write-bad s place (figuresOf s) k (h .0) refl (sym (f .0)) (f .1) .0)),
-  )
-    where
-      go : (w : SheetWritten) (o : List ℕ) → Wrote s place w o → w ≡ BadFieldToWrite k → (size ≤ length place) × Least (Bad (figuresOf s)) k
-      go w o (too-small h) e = let x : _≡_ {A = ℕ} 0 1 = cc in absurd (omega arith)
-      go w o (bad-field j l f n) e = let x : j ≡ k = cc in (l, first-least (figuresOf s) k .0 (f ∙ x, λ z. n (x ∙ z)))
-      go w o (done l f) e = let x : _≡_ {A = ℕ} 0 1 = cc in absurd (omega arith)
+  pub written-exactly : Exactly (writtenRows s place) (writtenNumber (writtenOf s place))
+  written-exactly = exactly (writes s) (writtenRows s place) tt (writtenOf s place) written-told
 
-  -- and done exactly when neither holds
-  pub done-exactly : (writtenOf s place ≡ Done) ↔ ((size ≤ length place) × ((k : ℕ) → Bad (figuresOf s) k → ⊥))
-  done-exactly = (
-    (λ e. go (writtenOf s place) (placeOf s place) (wrote s place) e),
-    (λ h. sym (write-done s place (figuresOf s) 0 (h .0) refl (sym (none-bad (figuresOf s) .1 (h .1))) _ refl refl .0)),
-  )
+  -- 3 with k exactly when k is the least bad field, and not 12
+  pub bad-to-write-exactly : (k : ℕ) → (writtenOf s place ≡ BadFieldToWrite k) ↔ (Least (Bad (figuresOf s)) k × NoneBefore (writtenRows s place) 3)
+  bad-to-write-exactly k =
+      refusal-exactly (writes s) (writtenRows s place) tt (writtenOf s place) written-told (BadFieldToWrite k) (omega arith)
+      (λ least. record { field = k; bad = least .holds }) (only (writtenOf s place))
     where
-      go : (w : SheetWritten) (o : List ℕ) → Wrote s place w o → w ≡ Done → (size ≤ length place) × ((k : ℕ) → Bad (figuresOf s) k → ⊥)
-      go w o (too-small h) e = let x : _≡_ {A = ℕ} 0 1 = cc in absurd (omega arith)
-      go w o (bad-field j l f n) e = let x : _≡_ {A = ℕ} 0 1 = cc in absurd (omega arith)
-      go w o (done l f) e = (l, none-bad (figuresOf s) .0 f)
+      only : (w : SheetWritten) → writtenNumber w ≡ 3 → Unwritten s w → Least (Bad (figuresOf s)) k → w ≡ BadFieldToWrite k
+      only Done e u l = absurd u
+      only PlaceTooSmall e u l = absurd (omega arith)
+      only (BadFieldToWrite j) e u l = ap BadFieldToWrite (least-only (Bad (figuresOf s)) j k u l)
 
   -- a refused writing changes no byte
   pub refused-unchanged : (writtenOf s place ≡ Done → ⊥) → placeOf s place ≡ place
