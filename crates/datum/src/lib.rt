@@ -1,4 +1,5 @@
-// The two datums of a depth, and the level: the only way from one to the other (definition, section 4.1).
+// Neighbours of one unit, as types of their own: depths below two datums, with the level that alone leads from one to the other (definition,
+// section 4.1), and the two currents.
 ghost use mathlib.Core.Path.{_≡_};
 ghost use Rattle.datum.specs.Datum.{naturalDepth, datumDepth};
 
@@ -10,6 +11,11 @@ pub struct BelowLevel(pub u16);
 
 // A depth below chart datum, in cm; negative above it.
 pub struct BelowChart(pub i32);
+
+// Cross current and along current, in tenths of a knot: two types, so that neither stands in the other's column.
+pub struct CrossCurrent(pub u8);
+
+pub struct AlongCurrent(pub u8);
 
 // The deepest that a depth below the design level is held as: no cut is as deep.
 const DEEPEST: i64 = 65535;

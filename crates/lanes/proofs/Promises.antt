@@ -4,7 +4,7 @@ use mathlib.Core.Path.{_≡_}
 use mathlib.Core.Logic.{_↔_}
 use Prim.Native.Nat.{ℕ, _*_, _<_}
 use Rattle.laws.proofs.Unique.{one-answer}
-use Rattle.lanes.specs.Lanes.{byTraffic, lanesOf}
+use Rattle.lanes.specs.Lanes.{laneCount, byTraffic, lanesOf}
 use Rattle.lanes.specs.declared.Lanes.{Lanes}
 use Rattle.lanes.specs.declared.Lanes.the-variants.{One, Two}
 use Rattle.lanes.proofs.Traffic.{one-exactly, by-traffic-else, named-one, named-two}
@@ -23,6 +23,9 @@ two-named = named-two
 pub none-named : (channel ships knots named : ℕ) → (named ≡ 1 → ⊥) → (named ≡ 2 → ⊥) → lanesOf named channel ships knots ≡ byTraffic channel ships knots
 none-named = by-traffic-else
 
--- One answer.
+-- One answer of each call.
 pub lanes-unique : (named channel ships knots : ℕ) (r s : Lanes) → r ≡ lanesOf named channel ships knots → s ≡ lanesOf named channel ships knots → r ≡ s
 lanes-unique named channel ships knots = one-answer
+
+pub count-unique : (lanes : Lanes) (r s : ℕ) → r ≡ laneCount lanes → s ≡ laneCount lanes → r ≡ s
+count-unique lanes = one-answer

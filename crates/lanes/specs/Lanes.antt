@@ -4,6 +4,11 @@ use Rattle.laws.specs.Choice.{if_then_else_, _<ᵇ_, _=ᵇ_}
 use Rattle.lanes.specs.declared.Lanes.{Lanes}
 use Rattle.lanes.specs.declared.Lanes.the-variants.{One, Two}
 
+-- how many lanes
+abbrev pub laneCount : Lanes → ℕ
+laneCount One = 1
+laneCount Two = 2
+
 -- by the traffic: one lane exactly when channel length × ships < 4,444,800 × knots
 unfoldable pub byTraffic : ℕ → ℕ → ℕ → Lanes
 byTraffic channel ships knots = if channel * ships <ᵇ 4444800 * knots then One else Two

@@ -1,10 +1,20 @@
 // Lanes: one or two, as the sheet names them or by the traffic (definition, section 3).
 ghost use mathlib.Core.Path.{_≡_};
-ghost use Rattle.lanes.specs.Lanes.{lanesOf, byTraffic};
+ghost use Rattle.lanes.specs.Lanes.{laneCount, lanesOf, byTraffic};
 
 pub enum Lanes {
     One,
     Two,
+}
+
+// How many lanes: one or two.
+pub fn lane_count(lanes: Lanes) -> u8
+    ensures { λ r. ⌜ r ≡ laneCount lanes ⌝ }
+{
+    match lanes {
+        Lanes::One => 1,
+        Lanes::Two => 2,
+    }
 }
 
 // One lane while the channel's length times the ships stays under this many times the knots.

@@ -4,12 +4,12 @@ ghost use lib.IntN.{pos};
 ghost use Rattle.datum.specs.Datum.{belowChart};
 ghost use Rattle.sheet.specs.Packing.{Narrow};
 ghost use Rattle.sheet.specs.Sheets.{sheetOf, sheetWith, levelSourceOf, figuresOf, bedFigure, sourceFigure, levelFigure};
-use crate::AlongCurrent;
-use crate::CrossCurrent;
 use crate::LevelSource;
 use crate::Sheet;
 use crate::fields::GROUPS;
+use datum::AlongCurrent;
 use datum::BelowChart;
+use datum::CrossCurrent;
 use datum::Level;
 
 // What stands for a figure that no field holds: past every field's greatest value.

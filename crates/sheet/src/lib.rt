@@ -1,17 +1,14 @@
 // The sheet: 28 bytes, 28 fields packed most significant bit first (definition, section 1).
 ghost use mathlib.Core.Path.{_≡_};
 ghost use Rattle.sheet.specs.Sheets.{readOf, writtenOf, placeOf};
+use datum::AlongCurrent;
 use datum::BelowChart;
+use datum::CrossCurrent;
 use datum::Level;
 
 mod bits;
 mod fields;
 mod figures;
-
-// Cross current and along current, in tenths of a knot: two types, so that neither stands in the other's column.
-pub struct CrossCurrent(pub u8);
-
-pub struct AlongCurrent(pub u8);
 
 // Where the design level comes from: off the record, or given with its figure.
 pub enum LevelSource {

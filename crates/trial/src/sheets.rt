@@ -1,9 +1,9 @@
 // A sheet as 28 plain figures, by the names of its fields; to be written, with a bed that may lie above chart datum.
+use datum::AlongCurrent;
 use datum::BelowChart;
 use datum::BelowLevel;
+use datum::CrossCurrent;
 use datum::Level;
-use sheet::AlongCurrent;
-use sheet::CrossCurrent;
 use sheet::LevelSource;
 use sheet::Sheet;
 use sheet::SheetRead;

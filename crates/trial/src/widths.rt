@@ -1,8 +1,8 @@
 // The width and the bend of a stretch, by figures in the order of the sheet's fields, then the lanes and the sailing depth.
 use crate::places;
+use datum::AlongCurrent;
 use datum::BelowLevel;
-use sheet::AlongCurrent;
-use sheet::CrossCurrent;
+use datum::CrossCurrent;
 use width::Bend;
 use width::Items;
 use width::ItemsFound;

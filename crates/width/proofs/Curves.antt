@@ -12,7 +12,8 @@ use Rattle.laws.specs.Rounding.{up}
 use Rattle.laws.proofs.Rounding.{up-le}
 use Rattle.lanes.specs.declared.Lanes.{Lanes}
 use Rattle.lanes.specs.declared.Lanes.the-variants.{One, Two}
-use Rattle.width.specs.Bends.{leastLengths, laneCount, wideningOf, bendOf, LongEnough}
+use Rattle.lanes.specs.Lanes.{laneCount}
+use Rattle.width.specs.Bends.{leastLengths, wideningOf, bendOf, LongEnough}
 use Rattle.width.specs.declared.Bend.the-variants.{Widening, TooTight}
 use Rattle.laws.proofs.Quotients.{up-factor, up-twice}
 

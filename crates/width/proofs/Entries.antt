@@ -3,7 +3,7 @@
 use mathlib.Core.Path.{_≡_, ap, _∙_}
 use mathlib.Core.Bool.{true, false, _&&_}
 use Prim.Native.Nat.{ℕ, _+_, _*_, _/_}
-use Rattle.sheet.specs.declared.CrossCurrent.{CrossCurrent}
+use Rattle.datum.specs.declared.CrossCurrent.{CrossCurrent}
 use Rattle.width.specs.Bands.{waterOf, speedBandOf, crossEntry, waveEntry, hasEntry, hasEntries}
 use Rattle.width.specs.Width.{itemsWith, itemsAt, itemsOf, tenthsOf, widthFrom, widthOf}
 use Rattle.width.specs.declared.Water.{Water}

@@ -10,8 +10,8 @@ use Rattle.laws.proofs.Rising.{Rises, last-band, next-band, under-falls, to-fal
 use Rattle.laws.proofs.Rounding.{up-mono}
 use Rattle.lanes.specs.declared.Lanes.{Lanes}
 use Rattle.lanes.specs.declared.Lanes.the-variants.{One, Two}
-use Rattle.sheet.specs.declared.CrossCurrent.{CrossCurrent}
-use Rattle.sheet.specs.declared.AlongCurrent.{AlongCurrent}
+use Rattle.datum.specs.declared.CrossCurrent.{CrossCurrent}
+use Rattle.datum.specs.declared.AlongCurrent.{AlongCurrent}
 use Rattle.width.specs.Bands.{waterOf, speedBandOf, crossEntry, alongItem, waveEntry}
 use Rattle.width.specs.Additions.{windItem}
 use Rattle.width.specs.Width.{itemsWith, itemsAt, itemsOf, tenthsOf, widthFrom, widthOf}

@@ -14,11 +14,12 @@ use Rattle.laws.specs.Rounding.{up}
 use Rattle.laws.proofs.Extremes.{least-only}
 use Rattle.laws.proofs.Quotients.{up-least}
 use Rattle.lanes.specs.declared.Lanes.{Lanes}
-use Rattle.sheet.specs.declared.CrossCurrent.{CrossCurrent}
+use Rattle.datum.specs.declared.CrossCurrent.{CrossCurrent}
 use Rattle.width.specs.Bands.{by_in-open_in-sheltered_, for_moderate_slow_, waterOf, speedBandOf, crossEntry, waveEntry, hasEntry, hasEntries}
 use Rattle.width.specs.Width.{itemsAt, itemsOf, tenthsOf, widthFrom, widthOf, widthNumber}
 use Rattle.width.specs.Comparing.{NoWidthEntry}
-use Rattle.width.specs.Bends.{leastLengths, laneCount, wideningOf, bendOf, bendNumber, TightBend}
+use Rattle.lanes.specs.Lanes.{laneCount}
+use Rattle.width.specs.Bends.{leastLengths, wideningOf, bendOf, bendNumber, TightBend}
 use Rattle.width.specs.declared.Bend.the-variants.{Widening, TooTight}
 use Rattle.width.proofs.Curves.{lengths-within, straight, tight, long-enough, widened, wide}
 use Rattle.width.specs.declared.Water.{Water}

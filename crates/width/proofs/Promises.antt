@@ -9,10 +9,11 @@ use Rattle.laws.specs.Extremes.{Least}
 use Rattle.laws.proofs.Unique.{one-answer}
 use Rattle.lanes.specs.declared.Lanes.{Lanes}
 use Rattle.lanes.specs.declared.Lanes.the-variants.{One, Two}
-use Rattle.sheet.specs.declared.CrossCurrent.{CrossCurrent}
+use Rattle.datum.specs.declared.CrossCurrent.{CrossCurrent}
 use Rattle.width.specs.Bands.{hasEntries}
 use Rattle.width.specs.Width.{laneAndAdded, itemsOf, tenthsOf, widthOf, widthNumber}
-use Rattle.width.specs.Bends.{leastLengths, laneCount, bendOf, bendNumber, TightBend}
+use Rattle.lanes.specs.Lanes.{laneCount}
+use Rattle.width.specs.Bends.{leastLengths, bendOf, bendNumber, TightBend}
 use Rattle.width.specs.Comparing.{Harder, NoNarrower, NoWidthEntry}
 use Rattle.width.specs.declared.Stretch.{Stretch}
 use Rattle.width.specs.declared.Items.{Items}

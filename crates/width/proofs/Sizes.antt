@@ -9,13 +9,14 @@ use Rattle.laws.specs.Choice.{if_then_else_, _≤ᵇ_, _<ᵇ_, _=ᵇ_}
 use Rattle.laws.specs.Rounding.{up}
 use Rattle.laws.proofs.Rounding.{up-le}
 use Rattle.datum.specs.declared.BelowLevel.{BelowLevel}
-use Rattle.sheet.specs.declared.CrossCurrent.{CrossCurrent}
-use Rattle.sheet.specs.declared.AlongCurrent.{AlongCurrent}
+use Rattle.datum.specs.declared.CrossCurrent.{CrossCurrent}
+use Rattle.datum.specs.declared.AlongCurrent.{AlongCurrent}
 use Rattle.lanes.specs.declared.Lanes.{Lanes}
 use Rattle.lanes.specs.declared.Lanes.the-variants.{One, Two}
 use Rattle.width.specs.Bands.{by_in-open_in-sheltered_, for_moderate_slow_, waterOf, speedBandOf, crossEntry, alongItem, waveEntry}
 use Rattle.width.specs.Additions.{laneItem, windItem, aidsItem, bedItem, depthItem, cargoItem, banksItem, passingItem, trafficItem}
-use Rattle.width.specs.Bends.{leastLengths, laneCount, wideningOf, bendOf, LongEnough}
+use Rattle.lanes.specs.Lanes.{laneCount}
+use Rattle.width.specs.Bends.{leastLengths, wideningOf, bendOf, LongEnough}
 use Rattle.width.specs.declared.Bend.the-variants.{Widening, TooTight}
 use Rattle.width.proofs.Banks.{bank-within}
 use Rattle.width.proofs.Curves.{lengths-within, lanes-within, ship-within, widening-within, widening-is}

@@ -2,8 +2,8 @@
 use Prim.Native.Nat.{ℕ}
 use mathlib.Core.Bool.{Bool, true, false, _&&_}
 use Rattle.laws.specs.Choice.{if_then_else_, _≤ᵇ_, _<ᵇ_, _=ᵇ_}
-use Rattle.sheet.specs.declared.CrossCurrent.{CrossCurrent}
-use Rattle.sheet.specs.declared.AlongCurrent.{AlongCurrent}
+use Rattle.datum.specs.declared.CrossCurrent.{CrossCurrent}
+use Rattle.datum.specs.declared.AlongCurrent.{AlongCurrent}
 use Rattle.width.specs.declared.Water.{Water}
 use Rattle.width.specs.declared.Water.the-variants.{Open, Sheltered}
 use Rattle.width.specs.declared.SpeedBand.{SpeedBand}

@@ -3,19 +3,14 @@ use mathlib.Core.Path.{_≡_}
 use Prim.Native.Nat.{ℕ, _*_, _<_, _≤_}
 use Rattle.laws.specs.Choice.{if_then_else_, _<ᵇ_, _=ᵇ_}
 use Rattle.laws.specs.Rounding.{up}
+use Rattle.lanes.specs.Lanes.{laneCount}
 use Rattle.lanes.specs.declared.Lanes.{Lanes}
-use Rattle.lanes.specs.declared.Lanes.the-variants.{One, Two}
 use Rattle.width.specs.declared.Bend.{Bend}
 use Rattle.width.specs.declared.Bend.the-variants.{Widening, TooTight}
 
 -- least radius of a bend: 3 lengths under 25°, 5 under 35°, 8 under 55°, else 10
 unfoldable pub leastLengths : ℕ → ℕ
 leastLengths turn = if turn <ᵇ 25 then 3 else (if turn <ᵇ 35 then 5 else (if turn <ᵇ 55 then 8 else 10))
-
--- the lanes' number
-abbrev pub laneCount : Lanes → ℕ
-laneCount One = 1
-laneCount Two = 2
 
 -- 9144 × turn × knots² × length² × lanes / (2,446,000,000 × radius) cm, rounded up
 unfoldable pub wideningOf : ℕ → ℕ → ℕ → ℕ → Lanes → ℕ

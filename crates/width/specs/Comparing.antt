@@ -2,8 +2,8 @@
 use mathlib.Core.Path.{_≡_}
 use mathlib.Core.Logic.{_⊎_}
 use Prim.Native.Nat.{ℕ, _≤_, _<_}
-use Rattle.sheet.specs.declared.CrossCurrent.{CrossCurrent}
-use Rattle.sheet.specs.declared.AlongCurrent.{AlongCurrent}
+use Rattle.datum.specs.declared.CrossCurrent.{CrossCurrent}
+use Rattle.datum.specs.declared.AlongCurrent.{AlongCurrent}
 use Rattle.width.specs.declared.Stretch.{Stretch}
 use Rattle.width.specs.declared.WidthFound.{WidthFound}
 use Rattle.width.specs.declared.WidthFound.the-variants.{Found, NoEntry}

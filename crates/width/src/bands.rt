@@ -6,8 +6,8 @@ ghost use Rattle.width.specs.declared.Entry.the-variants.{Tenths, Blank}
 use crate::Entry;
 use crate::SpeedBand;
 use crate::Water;
-use sheet::AlongCurrent;
-use sheet::CrossCurrent;
+use datum::AlongCurrent;
+use datum::CrossCurrent;
 
 // A figure of open water and one of sheltered water.
 pub fn watered(water: Water, outside: u8, inside: u8) -> u8

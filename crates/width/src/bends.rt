@@ -2,7 +2,7 @@
 ghost use mathlib.Core.Path.{_≡_};
 ghost use Prim.Native.Nat.{_*_, _<_};
 ghost use Rattle.laws.specs.Rounding.{up};
-ghost use Rattle.width.specs.Bends.{laneCount, leastLengths, wideningOf, LongEnough};
+ghost use Rattle.width.specs.Bends.{leastLengths, wideningOf, LongEnough};
 use lanes::Lanes;
 
 // The least radius of a bend, in lengths of the ship.
@@ -21,15 +21,6 @@ pub fn least_lengths(turn: u8) -> u32
     10
 }
 
-fn lane_count(lanes: Lanes) -> u64
-    ensures { λ r. ⌜ r ≡ laneCount lanes ⌝ }
-{
-    match lanes {
-        Lanes::One => 1,
-        Lanes::Two => 2,
-    }
-}
-
 // 9144 / 2,446,000,000 in its lowest terms.
 const NUMERATOR: u64 = 1143;
 
@@ -40,7 +31,10 @@ pub fn widening(turn: u8, radius: u16, length: u16, knots: u8, lanes: Lanes) -> 
     requires { ⌜ LongEnough radius length ⌝ }
     ensures { λ r. ⌜ r ≡ wideningOf turn radius length knots lanes ⌝ }
 {
-    let ship = NUMERATOR * (turn as u64) * ((knots as u64) * (knots as u64)) * lane_count(lanes);
+    let ship = NUMERATOR
+        * (turn as u64)
+        * ((knots as u64) * (knots as u64))
+        * (lanes::lane_count(lanes) as u64);
     let square = (length as u64) * (length as u64);
     let metres = radius as u64;
     ((scaled(ship, square) + (metres - 1)) / metres) as u32

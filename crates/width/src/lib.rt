@@ -3,10 +3,10 @@ ghost use mathlib.Core.Path.{_≡_};
 ghost use Rattle.width.specs.Bands.{waterOf, speedBandOf, hasEntries};
 ghost use Rattle.width.specs.Bends.{bendOf};
 ghost use Rattle.width.specs.Width.{itemsOf, tenthsOf, widthOf, laneAndAdded};
+use datum::AlongCurrent;
 use datum::BelowLevel;
+use datum::CrossCurrent;
 use lanes::Lanes;
-use sheet::AlongCurrent;
-use sheet::CrossCurrent;
 
 mod additions;
 mod bands;
