@@ -47,30 +47,30 @@ module _ (buffer : List ℕ) (at n : ℕ) where
   module _ (later : List ℕ) (place rest : ℕ) (s : Standing buffer at n later place rest) where
     stored : (d : ℕ) → 0 < place → place ≤ length buffer
         → set later (place - 1) d ≡ take (place - 1) buffer ++ (d ∷ s .stand ++ drop (at + length (countText n)) buffer)
-    stored d some room =
+    stored d some within =
         let e : place ≡ suc (place - 1) = omega arith in
         let behind = s .stand ++ drop (at + length (countText n)) buffer in
         ap (λ (l : List ℕ). set l (place - 1) d) (s .holds ∙ ap (λ (j : ℕ). take j buffer ++ behind) e)
         ∙ put-in buffer behind (place - 1) d (omega arith)
 
     pub one-more-stands : 10 ≤ rest → place ≤ length buffer → Standing buffer at n (set later (place - 1) (byteOf (rest % 10))) (place - 1) (rest / 10)
-    one-more-stands h room =
+    one-more-stands h within =
         record {
           stand = byteOf (rest % 10) ∷ s .stand;
           text = s .text ∙ rw (count-more rest h) (append-assoc (countText (rest / 10)) (byteOf (rest % 10) ∷ []) (s .stand));
           left = omega (arith, s .left, places-more rest h);
-          holds = stored (byteOf (rest % 10)) (omega (arith, s .left, places-more rest h)) room;
+          holds = stored (byteOf (rest % 10)) (omega (arith, s .left, places-more rest h)) within;
         }
 
     pub all-stands : (end : ℕ) → end ≡ at + length (digits n) → rest < 10 → place ≤ length buffer
         → Put buffer at (countText n) (set later at (byteOf rest)) end
     unfolding withText
-    all-stands end e h room =
+    all-stands end e h within =
         let p : place - 1 ≡ at = omega (arith, s .left, places-one rest h) in
         let t : countText n ≡ byteOf rest ∷ s .stand = s .text ∙ rw (count-one rest h) in
         record {
           after = omega (arith, count-length n);
-          holds = rw p at (stored (byteOf rest) (omega (arith, s .left, places-one rest h)) room)
+          holds = rw p at (stored (byteOf rest) (omega (arith, s .left, places-one rest h)) within)
               ∙ ap (λ (l : List ℕ). take at buffer ++ (l ++ drop (at + length (countText n)) buffer)) (sym t);
         }
 
@@ -80,23 +80,23 @@ module _ (buffer : List ℕ) (at n : ℕ) where
   -- one digit more in front of those that stand, as a store states it
   before-stands : (later : List ℕ) (place rest rest′ : ℕ) → Standing buffer at n later (place + 1) rest → 10 ≤ rest → rest / 10 ≡ rest′
       → place < length buffer → Standing buffer at n (set later place (byteOf (rest % 10))) place rest′
-  before-stands later place rest rest′ s h e room =
+  before-stands later place rest rest′ s h e within =
       let p : place + 1 - 1 ≡ place = omega arith in
       rw (p, e) at (one-more-stands later (place + 1) rest s h (omega arith))
 
   -- the first digit, and with it all of them
   first-stands : (later : List ℕ) (rest end : ℕ) → Standing buffer at n later (at + 1) rest → rest < 10 → end ≡ at + length (digits n)
       → at < length buffer → Put buffer at (countText n) (set later at (byteOf rest)) end
-  first-stands later rest end s h e room = all-stands later (at + 1) rest s end e h (omega arith)
+  first-stands later rest end s h e within = all-stands later (at + 1) rest s end e h (omega arith)
 
   pub one-stands : n < 10 → at < length buffer → Put buffer at (countText n) (set buffer at (byteOf n)) (at + 1)
-  one-stands h room =
+  one-stands h within =
       let e : at + 1 ≡ at + length (digits n) = omega (arith, places-one n h) in
-      first-stands buffer n (at + 1) (none-stands (at + 1) e) h e room
+      first-stands buffer n (at + 1) (none-stands (at + 1) e) h e within
 
   pub two-stand : 10 ≤ n → n < 100 → at + 2 ≤ length buffer
       → Put buffer at (countText n) (set (set buffer (at + 1) (byteOf (n % 10))) at (byteOf (n / 10))) (at + 2)
-  two-stand l h room =
+  two-stand l h within =
       let e : at + 2 ≡ at + length (digits n) = omega (arith, places-two n l h) in
       let e′ : at + 1 + 1 ≡ at + length (digits n) = omega (arith, places-two n l h) in
       let last = before-stands buffer (at + 1) n (n / 10) (none-stands (at + 1 + 1) e′) l refl (omega arith) in
@@ -105,7 +105,7 @@ module _ (buffer : List ℕ) (at n : ℕ) where
   pub three-stand : 100 ≤ n → n < 1000 → at + 3 ≤ length buffer
       → Put buffer at (countText n)
       (set (set (set buffer (at + 2) (byteOf (n % 10))) (at + 1) (byteOf (n / 10 % 10))) at (byteOf (n / 100))) (at + 3)
-  three-stand l h room =
+  three-stand l h within =
       let e : at + 3 ≡ at + length (digits n) = omega (arith, places-three n l h) in
       let e′ : at + 2 + 1 ≡ at + length (digits n) = omega (arith, places-three n l h) in
       let last = before-stands buffer (at + 2) n (n / 10) (none-stands (at + 2 + 1) e′) (omega arith) refl (omega arith) in
@@ -117,7 +117,7 @@ module _ (buffer : List ℕ) (at n : ℕ) where
       → Put buffer at (countText n)
       (set (set (set (set buffer (at + 3) (byteOf (n % 10))) (at + 2) (byteOf (n / 10 % 10))) (at + 1) (byteOf (n / 100 % 10))) at (byteOf (n / 1000)))
       (at + 4)
-  four-stand l h room =
+  four-stand l h within =
       let e : at + 4 ≡ at + length (digits n) = omega (arith, places-four n l h) in
       let e′ : at + 3 + 1 ≡ at + length (digits n) = omega (arith, places-four n l h) in
       let last = before-stands buffer (at + 3) n (n / 10) (none-stands (at + 3 + 1) e′) (omega arith) refl (omega arith) in

@@ -1,5 +1,4 @@
--- What the putting of a line keeps: the bytes before it and after it, and the whole buffer where there is no room.
--- By the two cases of the room.
+-- What the putting of a line keeps: the bytes before it and after it, and the whole buffer where no line fits. By the two cases.
 -- Assumes nothing.
 use mathlib.Core.Path.{_≡_, refl}
 use mathlib.Core.Bool.{Bool, true, false}
@@ -10,65 +9,65 @@ use native.Mathlib.Omega.{arith}
 use borrow.Author.Tests.{le-leb, lt-leb, leb-true, leb-false}
 use lib.Dec.{leb}
 use lib.ListN.{length, take, drop}
-use Rattle.lines.specs.Lines.{room, withText, placeAfter, bufferAfter}
+use Rattle.lines.specs.Lines.{lineBytes, withText, placeAfter, bufferAfter}
 use Rattle.lines.proofs.Placing.{put-length, before-stays, text-stands, after-stays}
 
 module _ (line : List ℕ) (at : ℕ) (buffer : List ℕ) where
-  pub place-with-room : at + room ≤ length buffer → placeAfter line at buffer ≡ at + length line
+  pub place-fitting : at + lineBytes ≤ length buffer → placeAfter line at buffer ≡ at + length line
   unfolding placeAfter
-  place-with-room h = rw (le-leb (at + room) (length buffer) h)
+  place-fitting h = rw (le-leb (at + lineBytes) (length buffer) h)
 
-  pub buffer-with-room : at + room ≤ length buffer → bufferAfter line at buffer ≡ withText at line buffer
+  pub buffer-fitting : at + lineBytes ≤ length buffer → bufferAfter line at buffer ≡ withText at line buffer
   unfolding bufferAfter
-  buffer-with-room h = rw (le-leb (at + room) (length buffer) h)
+  buffer-fitting h = rw (le-leb (at + lineBytes) (length buffer) h)
 
-  pub place-no-room : length buffer < at + room → placeAfter line at buffer ≡ at
+  pub place-unfit : length buffer < at + lineBytes → placeAfter line at buffer ≡ at
   unfolding placeAfter
-  place-no-room h = rw (lt-leb (at + room) (length buffer) h)
+  place-unfit h = rw (lt-leb (at + lineBytes) (length buffer) h)
 
-  pub buffer-no-room : length buffer < at + room → bufferAfter line at buffer ≡ buffer
+  pub buffer-unfit : length buffer < at + lineBytes → bufferAfter line at buffer ≡ buffer
   unfolding bufferAfter
-  buffer-no-room h = rw (lt-leb (at + room) (length buffer) h)
+  buffer-unfit h = rw (lt-leb (at + lineBytes) (length buffer) h)
 
-  -- what holds with room and without
-  either : (P : Type 0) → (at + room ≤ length buffer → P) → (length buffer < at + room → P) → P
-  either P roomy tight = go (leb (at + room) (length buffer)) refl
+  -- what holds where a line fits and where none does
+  either : (P : Type 0) → (at + lineBytes ≤ length buffer → P) → (length buffer < at + lineBytes → P) → P
+  either P fits tight = go (leb (at + lineBytes) (length buffer)) refl
     where
-      go : (b : Bool) → leb (at + room) (length buffer) ≡ b → P
-      go true e = roomy (leb-true _ _ e)
+      go : (b : Bool) → leb (at + lineBytes) (length buffer) ≡ b → P
+      go true e = fits (leb-true _ _ e)
       go false e = tight (leb-false _ _ e)
 
-  -- a line that is not empty leaves its place exactly when there is room
-  pub same-place-exactly : 0 < length line → (placeAfter line at buffer ≡ at) ↔ (length buffer < at + room)
+  -- a line that is not empty leaves its place exactly when a line fits
+  pub same-place-exactly : 0 < length line → (placeAfter line at buffer ≡ at) ↔ (length buffer < at + lineBytes)
   same-place-exactly some = (
-    (λ e. either (length buffer < at + room) (λ h. absurd (omega (arith, place-with-room h))) (λ h. h)),
-    place-no-room,
+    (λ e. either (length buffer < at + lineBytes) (λ h. absurd (omega (arith, place-fitting h))) (λ h. h)),
+    place-unfit,
   )
 
-  module _ (fits : length line ≤ room) where
+  module _ (fits : length line ≤ lineBytes) where
     pub before-kept : take at (bufferAfter line at buffer) ≡ take at buffer
     before-kept =
         either (take at (bufferAfter line at buffer) ≡ take at buffer)
-        (λ h. rw (buffer-with-room h) (before-stays buffer at line (omega arith)))
-        (λ h. rw (buffer-no-room h))
+        (λ h. rw (buffer-fitting h) (before-stays buffer at line (omega arith)))
+        (λ h. rw (buffer-unfit h))
 
     pub after-kept : drop (placeAfter line at buffer) (bufferAfter line at buffer) ≡ drop (placeAfter line at buffer) buffer
     after-kept =
         either (drop (placeAfter line at buffer) (bufferAfter line at buffer) ≡ drop (placeAfter line at buffer) buffer)
-        (λ h. rw (buffer-with-room h, place-with-room h) (after-stays buffer at line (omega arith)))
-        (λ h. rw (buffer-no-room h))
+        (λ h. rw (buffer-fitting h, place-fitting h) (after-stays buffer at line (omega arith)))
+        (λ h. rw (buffer-unfit h))
 
     pub length-kept : length (bufferAfter line at buffer) ≡ length buffer
     length-kept =
         either (length (bufferAfter line at buffer) ≡ length buffer)
-        (λ h. rw (buffer-with-room h) (put-length buffer at line (omega arith)))
-        (λ h. rw (buffer-no-room h))
+        (λ h. rw (buffer-fitting h) (put-length buffer at line (omega arith)))
+        (λ h. rw (buffer-unfit h))
 
-    pub line-stands : at + room ≤ length buffer → take (length line) (drop at (bufferAfter line at buffer)) ≡ line
-    line-stands h = rw (buffer-with-room h) (text-stands buffer at line (omega arith))
+    pub line-stands : at + lineBytes ≤ length buffer → take (length line) (drop at (bufferAfter line at buffer)) ≡ line
+    line-stands h = rw (buffer-fitting h) (text-stands buffer at line (omega arith))
 
     pub place-within : at ≤ length buffer → placeAfter line at buffer ≤ length buffer
     place-within a =
         either (placeAfter line at buffer ≤ length buffer)
-        (λ h. rw (place-with-room h) (omega arith))
-        (λ h. rw (place-no-room h) a)
+        (λ h. rw (place-fitting h) (omega arith))
+        (λ h. rw (place-unfit h) a)

@@ -1,11 +1,10 @@
-pub mod Eaches
 pub mod Digits
 pub mod Meaning
 pub mod Placing
 pub mod Spacing
 pub mod Counting
 pub mod Signs
-pub mod Rooms
+pub mod Fitting
 pub mod Texts
 pub mod OneLine
 pub mod Sizes

@@ -6,8 +6,9 @@ use mathlib.Core.List.{List, [], _∷_, _++_}
 use Prim.Native.Nat.{ℕ, zero, suc, _+_, _*_, _/_, _%_, _≤_, _<_}
 use native.Mathlib.Omega.{arith}
 use lib.ListN.{length, getD, length-append, List·getD-append}
-use Rattle.lines.specs.Decimals.{digits, valueBehind, valueOf, Each, Decimal}
-use Rattle.lines.proofs.Eaches.{each-append, each-second, each-first}
+use Rattle.laws.specs.Each.{Each}
+use Rattle.lines.specs.Decimals.{digits, valueBehind, valueOf, Decimal}
+use Rattle.laws.proofs.Each.{each-append, each-second, each-first}
 use Rattle.lines.proofs.Digits.{digits-one, digits-more, by-tens, places-some}
 
 -- a last digit more

@@ -7,9 +7,10 @@ use Prim.Native.Nat.{ℕ, suc, _+_, _≤_, _<_}
 use native.Mathlib.Omega.{arith}
 use lib.IntN.{ℤ, pos, negsuc}
 use lib.ListN.{getD}
-use Rattle.lines.specs.Decimals.{Each, countText, numberText}
+use Rattle.laws.specs.Each.{Each}
+use Rattle.lines.specs.Decimals.{countText, numberText}
 use Rattle.lines.specs.Lines.{space, newline, letterL, letterR, spaced, lineText, levelsLine, sheetLine, routeLine}
-use Rattle.lines.proofs.Eaches.{each-implied}
+use Rattle.laws.proofs.Each.{each-implied}
 use Rattle.lines.proofs.Texts.{DigitByte, count-bytes, count-text-one, number-text-one, tail}
 
 -- a word with neither a space nor a newline

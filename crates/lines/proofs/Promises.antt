@@ -4,7 +4,7 @@ use mathlib.Core.Path.{_≡_}
 use mathlib.Core.Bool.{Bool}
 use mathlib.Core.List.{List, [], _∷_, List·Memᴰ}
 use mathlib.Core.Logic.{_↔_}
-use Prim.Native.Nat.{ℕ, _+_, _^_, _≤_, _<_}
+use Prim.Native.Nat.{ℕ, _+_, _*_, _^_, _≤_, _<_}
 use lib.IntN.{ℤ, pos}
 use lib.ListN.{length, take, drop}
 use lib.Signed.{_<ℤ_}
@@ -12,13 +12,14 @@ use mir.Syntax.{w32}
 use mir.Val.{SFits}
 use Rattle.laws.specs.Choice.{_≤ᵇ_}
 use Rattle.laws.proofs.Unique.{one-answer}
-use Rattle.lines.specs.Decimals.{digits, valueOf, Each, Decimal, minus, countText, numberText}
-use Rattle.lines.specs.Lines.{levelsLine, sheetLine, routeLine, room, placeAfter, bufferAfter}
+use Rattle.laws.specs.Each.{Each}
+use Rattle.lines.specs.Decimals.{digits, valueOf, Decimal, minus, countText, numberText}
+use Rattle.lines.specs.Lines.{numberCount, levelsLine, sheetLine, routeLine, lineBytes, placeAfter, bufferAfter}
 use Rattle.lines.proofs.Meaning.{digits-value, digits-decimal, decimal-only}
 use Rattle.lines.proofs.Texts.{count-text-one, number-text-one, minus-negative}
 use Rattle.lines.proofs.OneLine.{sheet-line-one, levels-line-one, route-line-one}
 use Rattle.lines.proofs.Sizes.{sheet-line-size, levels-line-size, route-line-size}
-use Rattle.lines.proofs.Keeping.{same-place-exactly, buffer-no-room, before-kept, line-stands, after-kept, length-kept, place-within}
+use Rattle.lines.proofs.Keeping.{same-place-exactly, buffer-unfit, before-kept, line-stands, after-kept, length-kept, place-within}
 use Rattle.lines.proofs.Sample.{numbersS, first-line, line-s, last-line}
 
 -- The digits of a number mean it.
@@ -55,9 +56,9 @@ pub route-of-line : (sheets answered class s a c : ℕ) → routeLine sheets ans
     → (sheets ≡ s) × (answered ≡ a) × (class ≡ c)
 route-of-line = route-line-one
 
--- No line is longer than its room of 192 bytes: a sheet's has at most 177, the first and the last at most 65.
-pub sheet-line-fits : (index : ℕ) (numbers : List ℤ) → index < 2 ^ 64 → length numbers ≡ 13 → Each (SFits w32) numbers
-    → length (sheetLine index numbers) ≤ 177
+-- No line is longer than its 192 bytes: a sheet's has at most 177, the first and the last at most 65.
+pub sheet-line-fits : (index : ℕ) (numbers : List ℤ) → index < 2 ^ 64 → length numbers ≡ numberCount → Each (SFits w32) numbers
+    → length (sheetLine index numbers) ≤ 12 * numberCount + 21
 sheet-line-fits = sheet-line-size
 
 pub levels-line-fits : (added missing refused : ℕ) → added < 2 ^ 64 → missing < 2 ^ 64 → refused < 2 ^ 64
@@ -69,36 +70,36 @@ pub route-line-fits : (sheets answered class : ℕ) → sheets < 2 ^ 64 → answ
 route-line-fits = route-line-size
 
 -- The same place is answered exactly when fewer than 192 bytes are left from it, and then nothing is written.
-pub no-room-exactly : (line : List ℕ) (at : ℕ) (buffer : List ℕ) → 0 < length line → (placeAfter line at buffer ≡ at) ↔ (length buffer < at + room)
-no-room-exactly = same-place-exactly
+pub unfit-exactly : (line : List ℕ) (at : ℕ) (buffer : List ℕ) → 0 < length line → (placeAfter line at buffer ≡ at) ↔ (length buffer < at + lineBytes)
+unfit-exactly = same-place-exactly
 
-pub no-room-changes-nothing : (line : List ℕ) (at : ℕ) (buffer : List ℕ) → length buffer < at + room → bufferAfter line at buffer ≡ buffer
-no-room-changes-nothing = buffer-no-room
+pub unfit-changes-nothing : (line : List ℕ) (at : ℕ) (buffer : List ℕ) → length buffer < at + lineBytes → bufferAfter line at buffer ≡ buffer
+unfit-changes-nothing = buffer-unfit
 
 -- Otherwise the line stands at its place.
-pub line-at-its-place : (line : List ℕ) (at : ℕ) (buffer : List ℕ) → length line ≤ room → at + room ≤ length buffer
+pub line-at-its-place : (line : List ℕ) (at : ℕ) (buffer : List ℕ) → length line ≤ lineBytes → at + lineBytes ≤ length buffer
     → take (length line) (drop at (bufferAfter line at buffer)) ≡ line
 line-at-its-place = line-stands
 
 -- Every byte before the line and after it stays as it was, and none is added or lost.
-pub before-untouched : (line : List ℕ) (at : ℕ) (buffer : List ℕ) → length line ≤ room → take at (bufferAfter line at buffer) ≡ take at buffer
+pub before-untouched : (line : List ℕ) (at : ℕ) (buffer : List ℕ) → length line ≤ lineBytes → take at (bufferAfter line at buffer) ≡ take at buffer
 before-untouched = before-kept
 
-pub after-untouched : (line : List ℕ) (at : ℕ) (buffer : List ℕ) → length line ≤ room
+pub after-untouched : (line : List ℕ) (at : ℕ) (buffer : List ℕ) → length line ≤ lineBytes
     → drop (placeAfter line at buffer) (bufferAfter line at buffer) ≡ drop (placeAfter line at buffer) buffer
 after-untouched = after-kept
 
-pub as-long-as-before : (line : List ℕ) (at : ℕ) (buffer : List ℕ) → length line ≤ room → length (bufferAfter line at buffer) ≡ length buffer
+pub as-long-as-before : (line : List ℕ) (at : ℕ) (buffer : List ℕ) → length line ≤ lineBytes → length (bufferAfter line at buffer) ≡ length buffer
 as-long-as-before = length-kept
 
 -- The place after a line lies in the buffer.
-pub next-place-within : (line : List ℕ) (at : ℕ) (buffer : List ℕ) → length line ≤ room → at ≤ length buffer
+pub next-place-within : (line : List ℕ) (at : ℕ) (buffer : List ℕ) → length line ≤ lineBytes → at ≤ length buffer
     → placeAfter line at buffer ≤ length buffer
 next-place-within = place-within
 
 -- One answered place and one later content of the buffer, for each of the three calls.
-pub room-unique : (bytes at : ℕ) (r s : Bool) → r ≡ (at + room ≤ᵇ bytes) → s ≡ (at + room ≤ᵇ bytes) → r ≡ s
-room-unique bytes at = one-answer
+pub fits-unique : (bytes at : ℕ) (r s : Bool) → r ≡ (at + lineBytes ≤ᵇ bytes) → s ≡ (at + lineBytes ≤ᵇ bytes) → r ≡ s
+fits-unique bytes at = one-answer
 
 pub sheet-place-unique : (index : ℕ) (numbers : List ℤ) (at : ℕ) (buffer : List ℕ) (r s : ℕ)
     → r ≡ placeAfter (sheetLine index numbers) at buffer → s ≡ placeAfter (sheetLine index numbers) at buffer → r ≡ s

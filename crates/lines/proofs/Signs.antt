@@ -1,6 +1,4 @@
--- A signed number as the machine reads it and counts it without its sign, and its text.
--- By cases of the sign.
--- Assumes nothing.
+-- The text of a signed number, by cases of the sign.
 use mathlib.Core.Path.{_≡_, refl, subst}
 use mathlib.Core.Bool.{true, false}
 use mathlib.Core.List.{List, _∷_}
@@ -17,30 +15,6 @@ use Rattle.lines.specs.Decimals.{minus, countText, numberText}
 use Rattle.lines.specs.Lines.{Put}
 use Rattle.lines.proofs.Counting.{count-at-most}
 use Rattle.lines.proofs.Placing.{byte-then}
-
--- -1 less a number
-abbrev pub flipped : ℤ → ℤ
-flipped z = negsuc 0 -ℤ z
-
-flip-negative : (n : ℕ) → flipped (negsuc n) ≡ pos n
-flip-negative n = let e : suc n - 1 ≡ n = omega arith in simp (le-ltb (suc n) 1 (omega arith), e)
-
--- what the machine needs to know of -1 less a negative number
-pub record Flipped (z : ℤ) : Type 0 where
-  pub fits : SFits w32 (flipped z)
-  pub sign : T (nonNeg (flipped z))
-  pub size : natAbs (flipped z) < 2147483648
-  pub one-less : natAbs (flipped z) + 1 ≡ natAbs z
-
-pub flip : (z : ℤ) → ltZ z (pos 0) ≡ true → SFits w32 z → Flipped z
-flip (pos n) t f = let h = ltb-true n 0 t in absurd (omega arith)
-flip (negsuc n) t f =
-    let e = flip-negative n in
-    record { fits = rw e (record { sfits = f .sfits }); sign = rw e tt; size = rw e (omega (arith, f .sfits)); one-less = rw e (omega arith) }
-
-pub no-sign : (z : ℤ) → ltZ z (pos 0) ≡ false → T (nonNeg z)
-no-sign (pos n) e = tt
-no-sign (negsuc n) e = subst T e tt
 
 -- without its sign a 32-bit number has at most ten digits
 pub size-at-most : (z : ℤ) → SFits w32 z → natAbs z ≤ 2147483648

@@ -1,4 +1,4 @@
--- No line is longer than its room: a count has at most twenty digits and a number at most eleven bytes.
+-- No line is longer than the bytes it is given: a count has at most twenty digits and a number at most eleven bytes.
 -- Assumes nothing.
 use mathlib.Core.Path.{_≡_, ap, _∙_}
 use mathlib.Core.List.{List, [], _∷_, _++_, map}
@@ -9,9 +9,10 @@ use lib.IntN.{ℤ, pos, negsuc}
 use lib.ListN.{length, length-append, length-map}
 use mir.Syntax.{w32}
 use mir.Val.{SFits}
-use Rattle.lines.specs.Decimals.{Each, countText, numberText}
-use Rattle.lines.specs.Lines.{newline, letterL, letterR, spaced, lineText, levelsLine, sheetLine, routeLine}
-use Rattle.lines.proofs.Eaches.{each-map}
+use Rattle.laws.specs.Each.{Each}
+use Rattle.lines.specs.Decimals.{countText, numberText}
+use Rattle.lines.specs.Lines.{numberCount, newline, letterL, letterR, spaced, lineText, levelsLine, sheetLine, routeLine}
+use Rattle.laws.proofs.Each.{each-map}
 use Rattle.lines.proofs.Counting.{count-at-most}
 use Rattle.lines.proofs.Signs.{number-at-most}
 
@@ -37,14 +38,14 @@ line-length : (first : List ℕ) (others : List (List ℕ)) → length (lineText
 line-length first others =
     length-append (first ++ spaced others) (newline ∷ []) ∙ ap (λ (n : ℕ). n + 1) (length-append first (spaced others))
 
-pub sheet-line-size : (index : ℕ) (numbers : List ℤ) → index < 2 ^ 64 → length numbers ≡ 13 → Each (SFits w32) numbers
-    → length (sheetLine index numbers) ≤ 177
+pub sheet-line-size : (index : ℕ) (numbers : List ℤ) → index < 2 ^ 64 → length numbers ≡ numberCount → Each (SFits w32) numbers
+    → length (sheetLine index numbers) ≤ 12 * numberCount + 21
 unfolding sheetLine
 sheet-line-size index numbers h n fit =
     let words = map numberText numbers in
     let s = spaced-at-most 11 words (each-map (SFits w32) (λ (w : List ℕ). length w ≤ 11) numberText number-at-most-11 numbers fit) in
-    let k : length words ≡ 13 = length-map numbers numberText ∙ n in
-    let t : length (spaced words) ≤ 12 * 13 = rw k at s in
+    let k : length words ≡ numberCount = length-map numbers numberText ∙ n in
+    let t : length (spaced words) ≤ 12 * numberCount = rw k at s in
     omega (arith, line-length (countText index) words, count-at-most-20 index h)
 
 module _ (a b c : ℕ) (fit-a : a < 2 ^ 64) (fit-b : b < 2 ^ 64) (fit-c : c < 2 ^ 64) where

@@ -9,8 +9,9 @@ use native.Mathlib.Omega.{arith}
 use lib.IntN.{ℤ, pos, negsuc}
 use mir.Facts.{ltb-yes}
 use lib.Signed.{_<ℤ_}
-use Rattle.lines.specs.Decimals.{digits, valueOf, Each, zeroByte, minus, byteOf, countText, numberText}
-use Rattle.lines.proofs.Eaches.{each-map, each-member}
+use Rattle.laws.specs.Each.{Each}
+use Rattle.lines.specs.Decimals.{digits, valueOf, zeroByte, minus, byteOf, countText, numberText}
+use Rattle.laws.proofs.Each.{each-map, each-member}
 use Rattle.lines.proofs.Meaning.{digits-value, digits-each}
 
 -- the bytes `0` to `9`

@@ -5,6 +5,7 @@ use mathlib.Core.List.{List, [], _∷_, _++_, map}
 use lib.IntN.{ℤ, pos, negsuc}
 use lib.ListN.{getD}
 use Rattle.laws.specs.Choice.{if_then_else_, _<ᵇ_}
+use Rattle.laws.specs.Each.{Each}
 
 -- the digits of n, the first one first, found by at most so many divisions by ten
 unfoldable pub digitsWithin : ℕ → ℕ → List ℕ
@@ -22,11 +23,6 @@ valueBehind read (d ∷ ds) = valueBehind (10 * read + d) ds
 
 abbrev pub valueOf : List ℕ → ℕ
 valueOf ds = valueBehind 0 ds
-
--- something holds of each one of a list
-abbrev pub Each {ℓ} : {A : Type ℓ} → (A → Type 0) → List A → Type 0
-Each P [] = Unit {0}
-Each P (x ∷ xs) = P x × Each P xs
 
 -- ds is the number n in decimal: a first digit 0 is the only one
 pub record Decimal (ds : List ℕ) (n : ℕ) : Type 0 where

@@ -1,5 +1,5 @@
 -- The lines that the printing program writes, and what a buffer holds once one is written.
-use Prim.Native.Nat.{ℕ, _+_}
+use Prim.Native.Nat.{ℕ, _+_, _*_}
 use mathlib.Core.Path.{_≡_}
 use mathlib.Core.List.{List, [], _∷_, _++_, map}
 use lib.IntN.{ℤ}
@@ -41,21 +41,25 @@ sheetLine index numbers = lineText (countText index) (map numberText numbers)
 unfoldable pub routeLine : ℕ → ℕ → ℕ → List ℕ
 routeLine sheets answered class = lineText (letterR ∷ []) (map countText (sheets ∷ answered ∷ class ∷ []))
 
--- the room that a line is given
-abbrev pub room : ℕ
-room = 192
+-- how many numbers the line of a sheet has behind its index
+abbrev pub numberCount : ℕ
+numberCount = 13
+
+-- the bytes that a line is given: no line of a sheet has more than 12 for each number and 21 for its index and the newline
+abbrev pub lineBytes : ℕ
+lineBytes = 12 * numberCount + 36
 
 -- a buffer with a text at a place
 unfoldable pub withText : ℕ → List ℕ → List ℕ → List ℕ
 withText at text buffer = take at buffer ++ (text ++ drop (at + length text) buffer)
 
--- the place after a line at a place: the same place where there is no room
+-- the place after a line at a place: the same place where no line fits
 unfoldable pub placeAfter : List ℕ → ℕ → List ℕ → ℕ
-placeAfter line at buffer = if at + room ≤ᵇ length buffer then at + length line else at
+placeAfter line at buffer = if at + lineBytes ≤ᵇ length buffer then at + length line else at
 
--- the buffer after a line at a place: as it was where there is no room
+-- the buffer after a line at a place: as it was where no line fits
 unfoldable pub bufferAfter : List ℕ → ℕ → List ℕ → List ℕ
-bufferAfter line at buffer = if at + room ≤ᵇ length buffer then withText at line buffer else buffer
+bufferAfter line at buffer = if at + lineBytes ≤ᵇ length buffer then withText at line buffer else buffer
 
 -- a text was put at a place of a buffer, which is now as later; end is the place after it
 pub record Put (buffer : List ℕ) (at : ℕ) (text : List ℕ) (later : List ℕ) (end : ℕ) : Type 0 where

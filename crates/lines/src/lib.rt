@@ -6,15 +6,15 @@ ghost use lib.IntN.{natAbs};
 ghost use lib.ListN.{length, take, drop};
 ghost use Rattle.laws.specs.Choice.{_≤ᵇ_};
 ghost use Rattle.lines.specs.Decimals.{digits, countText, numberText};
-ghost use Rattle.lines.specs.Lines.{room, spaced, lineText, sheetLine, levelsLine, routeLine, placeAfter, bufferAfter, Put};
-
-// The room that a line is given: the longest has 177 bytes.
-const ROOM: usize = 192;
+ghost use Rattle.lines.specs.Lines.{numberCount, lineBytes, spaced, lineText, sheetLine, levelsLine, routeLine, placeAfter, bufferAfter, Put};
 
 // The numbers of a sheet's line behind its index, and the counts of a line that begins with a letter.
 const NUMBERS: usize = 13;
 
 const COUNTS: usize = 3;
+
+// The bytes that a line is given: a sheet's has at most 12 for each number and 21 for its index and the newline.
+const LINE_BYTES: usize = 12 * NUMBERS + 36;
 
 const ZERO: u64 = 48;
 
@@ -28,11 +28,11 @@ const LETTER_L: u8 = 76;
 
 const LETTER_R: u8 = 82;
 
-// Puts the line of a sheet at a place and answers the place after it; the same place, and nothing put, where there is no room.
+// Puts the line of a sheet at a place and answers the place after it; the same place, and nothing put, where no line fits.
 pub fn put_sheet_line(index: u64, numbers: [i32; NUMBERS], buffer: &mut [u8], at: usize) -> usize
     ensures { λ r. ⌜ (r ≡ placeAfter (sheetLine index numbers) at (now (buffer .entry))) × (now (buffer .exit) ≡ bufferAfter (sheetLine index numbers) at (now (buffer .entry))) ⌝ }
 {
-    if !has_room(buffer.len(), at) {
+    if !line_fits(buffer.len(), at) {
         return at;
     }
     put_index_line(index, numbers, buffer, at)
@@ -48,7 +48,7 @@ pub fn put_levels_line(
 ) -> usize
     ensures { λ r. ⌜ (r ≡ placeAfter (levelsLine added missing refused) at (now (buffer .entry))) × (now (buffer .exit) ≡ bufferAfter (levelsLine added missing refused) at (now (buffer .entry))) ⌝ }
 {
-    if !has_room(buffer.len(), at) {
+    if !line_fits(buffer.len(), at) {
         return at;
     }
     put_letter_line(LETTER_L, [added, missing, refused], buffer, at)
@@ -58,25 +58,25 @@ pub fn put_levels_line(
 pub fn put_route_line(sheets: u64, answered: u64, class: u8, buffer: &mut [u8], at: usize) -> usize
     ensures { λ r. ⌜ (r ≡ placeAfter (routeLine sheets answered class) at (now (buffer .entry))) × (now (buffer .exit) ≡ bufferAfter (routeLine sheets answered class) at (now (buffer .entry))) ⌝ }
 {
-    if !has_room(buffer.len(), at) {
+    if !line_fits(buffer.len(), at) {
         return at;
     }
     put_letter_line(LETTER_R, [sheets, answered, class as u64], buffer, at)
 }
 
-// Whether a buffer of so many bytes has a line's room from a place on.
-pub fn has_room(bytes: usize, at: usize) -> bool
-    ensures { λ r. ⌜ r ≡ (at + room ≤ᵇ bytes) ⌝ }
+// Whether a line fits into a buffer of so many bytes from a place on.
+pub fn line_fits(bytes: usize, at: usize) -> bool
+    ensures { λ r. ⌜ r ≡ (at + lineBytes ≤ᵇ bytes) ⌝ }
 {
-    if bytes < ROOM {
+    if bytes < LINE_BYTES {
         return false;
     }
-    at <= bytes - ROOM
+    at <= bytes - LINE_BYTES
 }
 
-// A line of an index and thirteen numbers.
+// A line of an index and the numbers of a sheet.
 fn put_index_line(index: u64, numbers: [i32; NUMBERS], buffer: &mut [u8], at: usize) -> usize
-    requires { ⌜ at + room ≤ length (now buffer) ⌝ }
+    requires { ⌜ at + lineBytes ≤ length (now buffer) ⌝ }
     ensures { λ r. ⌜ Put (now (buffer .entry)) at (lineText (countText index) (map numberText numbers)) (now (buffer .exit)) r ⌝ }
 {
     let first = put_count(index, buffer, at);
@@ -87,7 +87,7 @@ fn put_index_line(index: u64, numbers: [i32; NUMBERS], buffer: &mut [u8], at: us
 
 // A line of a letter and three counts.
 fn put_letter_line(letter: u8, counts: [u64; COUNTS], buffer: &mut [u8], at: usize) -> usize
-    requires { ⌜ at + room ≤ length (now buffer) ⌝ }
+    requires { ⌜ at + lineBytes ≤ length (now buffer) ⌝ }
     ensures { λ r. ⌜ Put (now (buffer .entry)) at (lineText (letter ∷ []) (map countText counts)) (now (buffer .exit)) r ⌝ }
 {
     buffer[at] = letter;
@@ -98,8 +98,8 @@ fn put_letter_line(letter: u8, counts: [u64; COUNTS], buffer: &mut [u8], at: usi
 
 // Signed numbers, each behind one space. In two short runs: the compiler lays each out flat.
 fn put_numbers(numbers: [i32; NUMBERS], buffer: &mut [u8], at: usize) -> usize
-    requires { ⌜ at + 172 ≤ length (now buffer) ⌝ }
-    ensures { λ r. ⌜ Put (now (buffer .entry)) at (spaced (map numberText numbers)) (now (buffer .exit)) r × (r ≤ at + 156) ⌝ }
+    requires { ⌜ at + 12 * numberCount + 16 ≤ length (now buffer) ⌝ }
+    ensures { λ r. ⌜ Put (now (buffer .entry)) at (spaced (map numberText numbers)) (now (buffer .exit)) r × (r ≤ at + 12 * numberCount) ⌝ }
 {
     let middle = put_run(numbers, 0, 7, buffer, at);
     put_run(numbers, 7, NUMBERS, buffer, middle)
@@ -107,7 +107,7 @@ fn put_numbers(numbers: [i32; NUMBERS], buffer: &mut [u8], at: usize) -> usize
 
 // The numbers past the first `from`, up to `to`.
 fn put_run(numbers: [i32; NUMBERS], from: usize, to: usize, buffer: &mut [u8], at: usize) -> usize
-    requires { ⌜ (from ≤ to) × (to ≤ 13) × (at + 12 * (to - from) + 16 ≤ length (now buffer)) ⌝ }
+    requires { ⌜ (from ≤ to) × (to ≤ numberCount) × (at + 12 * (to - from) + 16 ≤ length (now buffer)) ⌝ }
     ensures { λ r. ⌜ Put (now (buffer .entry)) at (spaced (map numberText (take (to - from) (drop from numbers)))) (now (buffer .exit)) r × (r ≤ at + 12 * (to - from)) ⌝ }
 {
     let mut end = at;

@@ -1,10 +1,12 @@
 -- `lines::put_numbers` meets its contract: the two runs are all the numbers.
 -- Assumes nothing.
 use mathlib.Core.Path.{_≡_}
+use Prim.Native.Nat.{_-_}
 use native.Mathlib.Omega.{arith}
 use borrow.Author.Needs.{needs}
 use lib.ListN.{length}
 use Rattle.lines.specs.Decimals.{numberText}
+use Rattle.lines.specs.Lines.{numberCount}
 use Rattle.lines.proofs.Spacing.{two-runs}
 use Rattle.lines.proofs.put_numbers.Statement.{statement}
 use Rattle.lines.proofs.put_numbers.Tie as tie
@@ -26,8 +28,8 @@ returns c =
     let second = c .before .before in
     let first = second .before .before .before .before in
     let a = first .before .before .before .args in
-    let all : length (a .numbers) ≡ 13 = search needs in (
-      two-runs numberText (a .numbers) (a .buffer .now) (a .at) 7 6 _ _ (first .put-run .result) (second .put-run2 .result) (omega arith)
+    let all : length (a .numbers) ≡ numberCount = search needs in (
+      two-runs numberText (a .numbers) (a .buffer .now) (a .at) 7 (numberCount - 7) _ _ (first .put-run .result) (second .put-run2 .result) (omega arith)
           (omega arith) (first .put-run .ensures .0) (second .put-run2 .ensures .0),
       omega arith,
     )

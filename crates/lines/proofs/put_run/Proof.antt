@@ -11,13 +11,14 @@ use mir.Syntax.{w32}
 use mir.Val.{toZ, ofZ}
 use mir.Facts.{toZ-ofZ}
 use Rattle.lines.specs.Decimals.{numberText}
+use Rattle.lines.specs.Lines.{numberCount}
 use Rattle.lines.proofs.Spacing.{Words, no-words, next-word}
 use Rattle.lines.proofs.put_run.Statement.{statement}
 use Rattle.lines.proofs.put_run.Tie as tie
 
 abbrev Inv-loop : tie.InvT-loop
 Inv-loop from to buffer₀ at numbers end₀ i₀ buffer end i =
-    (from ≤ i) × (i ≤ to) × (length numbers ≡ 13) × (length buffer ≡ length buffer₀) × (end ≤ at + 12 * (i - from))
+    (from ≤ i) × (i ≤ to) × (length numbers ≡ numberCount) × (length buffer ≡ length buffer₀) × (end ≤ at + 12 * (i - from))
     × Words numberText (drop from numbers) buffer₀ at (i - from) buffer end
 
 abbrev μ-loop : tie.MeasureT-loop

@@ -1,8 +1,7 @@
--- What holds of each one of a list.
--- Assumes nothing.
+-- What holds of each one of a list holds of its parts, its members and their images, by going down the list.
 use mathlib.Core.Path.{subst, sym}
 use mathlib.Core.List.{List, [], _∷_, _++_, map, List·Memᴰ, List·Memᴰ·head, List·Memᴰ·tail}
-use Rattle.lines.specs.Decimals.{Each}
+use Rattle.laws.specs.Each.{Each}
 
 module _ {A : Type 0} (P : A → Type 0) where
   pub each-append : (first second : List A) → Each P first → Each P second → Each P (first ++ second)

@@ -1,0 +1,18 @@
+-- `lines::line_fits` meets its contract: neither test can wrap.
+-- Assumes nothing.
+use native.Mathlib.Omega.{arith}
+use Prim.Native.Nat.{_+_}
+use borrow.Author.Tests.{lt-leb}
+use Rattle.lines.specs.Lines.{lineBytes}
+use Rattle.lines.proofs.Fitting.{fits-from}
+use Rattle.lines.proofs.line_fits.Statement.{statement}
+use Rattle.lines.proofs.line_fits.Tie as tie
+
+returns : tie.Need-returns
+returns c = rw (lt-leb (c .before .args .at + lineBytes) (c .before .args .bytes) (omega arith))
+
+returns-2 : tie.Need-returns-2
+returns-2 c = fits-from (c .before .args .at) (c .before .args .bytes) (c .if1 .left)
+
+pub line-fits-spec : {M : Type 1} → statement M
+line-fits-spec = tie.close (tie.spec returns returns-2)
