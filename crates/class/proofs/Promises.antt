@@ -1,4 +1,4 @@
--- What the classes promise (section 7), each cited from its proof. Assumes nothing.
+-- What the classes promise (section 7), each cited from its proof.
 use mathlib.Core.Path.{_≡_, refl}
 use mathlib.Core.List.{List, [], _∷_, _++_, List·Memᴰ}
 use mathlib.Core.Logic.{_↔_}
@@ -10,10 +10,11 @@ use Rattle.datum.specs.Datum.{below}
 use Rattle.datum.specs.declared.BelowLevel.{BelowLevel}
 use Rattle.lanes.specs.declared.Lanes.{Lanes}
 use Rattle.lanes.specs.declared.Lanes.the-variants.{One, Two}
-use Rattle.class.specs.Classes.{shipClass, widthClass, depthClass, InClass, withShip, routeClass}
+use Rattle.class.specs.Classes.{shipClass, widthClass, depthClass, classesOf, InClass, withShip, routeClass}
+use Rattle.class.specs.declared.Classes.{Classes}
 use Rattle.class.proofs.Limits.{class-exactly, class-within}
 use Rattle.class.proofs.Routes.{smallest, one-more}
-use Rattle.class.proofs.Cases.{starred}
+use Rattle.class.proofs.Starred.{starred as the-starred}
 
 -- Ship from 40,000, 20,000, 10,000, 5,000 t, and nothing else.
 pub ship-classes : (deadweight k : ℕ) → (shipClass deadweight ≡ k) ↔ InClass 40000 20000 10000 5000 deadweight k
@@ -55,6 +56,10 @@ width-unique lanes width = one-answer
 pub depth-unique : (s : BelowLevel) (r t : ℕ) → r ≡ depthClass s → t ≡ depthClass s → r ≡ t
 depth-unique s = one-answer
 
+pub classes-unique : (deadweight width : ℕ) (lanes : Lanes) (s : BelowLevel) (r t : Classes)
+    → r ≡ classesOf deadweight width lanes s → t ≡ classesOf deadweight width lanes s → r ≡ t
+classes-unique deadweight width lanes s = one-answer
+
 pub none-answered-unique : (r t : ℕ) → r ≡ routeClass [] → t ≡ routeClass [] → r ≡ t
 none-answered-unique = one-answer
 
@@ -62,7 +67,7 @@ pub route-unique : (route ship r t : ℕ) → r ≡ withShip route ship → t �
 route-unique route ship = one-answer
 
 -- Case S: ship 0, width 0, depth 1, route 0.
-pub starred-classes : _≡_ {A = List ℕ}
+pub starred : _≡_ {A = List ℕ}
     (shipClass 40000 ∷ widthClass One 14400 ∷ depthClass (below 1170) ∷ routeClass (0 ∷ []) ∷ [])
     (0 ∷ 0 ∷ 1 ∷ 0 ∷ [])
-starred-classes = starred
+starred = the-starred

@@ -5,6 +5,7 @@ use Rattle.laws.specs.Choice.{if_then_else_, _≤ᵇ_, _<ᵇ_}
 use Rattle.datum.specs.declared.BelowLevel.{BelowLevel}
 use Rattle.lanes.specs.declared.Lanes.{Lanes}
 use Rattle.lanes.specs.declared.Lanes.the-variants.{One, Two}
+use Rattle.class.specs.declared.Classes.{Classes}
 
 -- from four figures, 0, 1, 2 and 3; under the last, 4
 unfoldable pub classBy : ℕ → ℕ → ℕ → ℕ → ℕ → ℕ
@@ -24,6 +25,10 @@ widthClass Two width = classBy 24000 20000 16000 12000 width
 -- depth by s from 14, 11, 9, 8 m
 abbrev pub depthClass : BelowLevel → ℕ
 depthClass s = classBy 1400 1100 900 800 (s .0)
+
+-- the three classes of a stretch
+abbrev pub classesOf : ℕ → ℕ → Lanes → BelowLevel → Classes
+classesOf deadweight width lanes s = record { ship = shipClass deadweight; width = widthClass lanes width; depth = depthClass s }
 
 -- what it means, without a method: the figure reaches the class and not the one before it
 pub data InClass (special first second third figure : ℕ) : ℕ → Type 0 where

@@ -1,9 +1,16 @@
 // The classes of a ship, a width and a depth, 0 special to 4, and the route's (definition, section 7).
 ghost use mathlib.Core.Path.{_≡_};
 ghost use mathlib.Core.List.{[]};
-ghost use Rattle.class.specs.Classes.{classBy, shipClass, widthClass, depthClass, withShip, routeClass};
+ghost use Rattle.class.specs.Classes.{classBy, shipClass, widthClass, depthClass, classesOf, withShip, routeClass};
 use datum::BelowLevel;
 use lanes::Lanes;
+
+// The three classes of a stretch.
+pub struct Classes {
+    pub ship: u8,
+    pub width: u8,
+    pub depth: u8,
+}
 
 // The class of a figure, by the figures from which classes 0 to 3 count.
 fn class_by(special: u32, first: u32, second: u32, third: u32, figure: u32) -> u8
@@ -46,6 +53,17 @@ pub fn depth_class(sailing: BelowLevel) -> u8
     ensures { λ r. ⌜ r ≡ depthClass sailing ⌝ }
 {
     class_by(1400, 1100, 900, 800, sailing.0 as u32)
+}
+
+// The classes of a stretch: by the deadweight in t, the width without widening in its lanes, and the sailing depth.
+pub fn classes_of(deadweight: u32, width: u32, lanes: Lanes, sailing: BelowLevel) -> Classes
+    ensures { λ r. ⌜ r ≡ classesOf deadweight width lanes sailing ⌝ }
+{
+    Classes {
+        ship: ship_class(deadweight),
+        width: width_class(width, lanes),
+        depth: depth_class(sailing),
+    }
 }
 
 // The class of a route none of whose stretches is answered.

@@ -1,5 +1,4 @@
 -- `class::width_class` meets its contract: the limits of one lane, and those of two.
--- Assumes nothing.
 use borrow.Author.Needs.{needs}
 use Rattle.class.proofs.width_class.Statement.{statement}
 use Rattle.class.proofs.width_class.Tie as tie
