@@ -1,20 +1,21 @@
--- A design: the checks of section 8 in their order, and the figures of a sheet that passes them.
+-- A design: the checks of section 8 in their order, and the figures of a sheet that passes them, room by room.
+-- What it means stands beside it, with no word of a check: `Refusals.antt` has the row of each number, `Answers.antt` what the figures are,
+-- `Harder.antt` demand 3.
 use Prim.Native.Nat.{ℕ}
 use mathlib.Core.List.{List}
-use lib.IntN.{ℤ, pos}
-use Rattle.laws.specs.Choice.{if_then_else_}
+use lib.IntN.{pos}
 use Rattle.datum.specs.Datum.{naturalDepth, datumDepth}
 use Rattle.datum.specs.declared.Level.{Level}
 use Rattle.datum.specs.declared.BelowLevel.{BelowLevel}
 use Rattle.sheet.specs.Sheets.{readOf}
 use Rattle.sheet.specs.declared.Sheet.{Sheet}
 use Rattle.sheet.specs.declared.SheetRead.{SheetRead}
-use Rattle.sheet.specs.declared.SheetRead.the-variants.{Good, WrongLength as NotSheetLong, SpareBitSet as SpareBit, BadField as FieldBad}
+use Rattle.sheet.specs.declared.SheetRead.the-variants.{Good, NoSheet as Unread}
 use Rattle.sheet.specs.declared.LevelSource.{LevelSource}
 use Rattle.sheet.specs.declared.LevelSource.the-variants.{FromRecord, Given}
 use Rattle.gauge.specs.Designing.{designLevel}
 use Rattle.gauge.specs.declared.LevelRead.{LevelRead}
-use Rattle.gauge.specs.declared.LevelRead.the-variants.{Found as LevelFound, WrongTable as TableWrong, TooFewReadings as FewReadings, RangeTooWide as RangeWide}
+use Rattle.gauge.specs.declared.LevelRead.the-variants.{Found, NoLevel as NotFound}
 use Rattle.lanes.specs.Lanes.{lanesOf}
 use Rattle.lanes.specs.declared.Lanes.{Lanes}
 use Rattle.depth.specs.Interval.{intervalOf}
@@ -23,17 +24,19 @@ use Rattle.depth.specs.declared.Stretch.{Stretch as DepthStretch}
 use Rattle.depth.specs.declared.Depth.{Depth}
 use Rattle.depth.specs.declared.Depth.the-variants.{Cut, NoCut}
 use Rattle.depth.specs.declared.DepthFigures.{DepthFigures}
-use Rattle.width.specs.Bands.{hasEntries}
+use Rattle.width.specs.Bands.{entriesOf}
 use Rattle.width.specs.Bends.{bendOf}
 use Rattle.width.specs.Width.{widthOf}
 use Rattle.width.specs.declared.Stretch.{Stretch as WidthStretch}
 use Rattle.width.specs.declared.Bend.{Bend}
 use Rattle.width.specs.declared.Bend.the-variants.{Widening, TooTight}
-use Rattle.width.specs.declared.WidthFound.{WidthFound}
-use Rattle.width.specs.declared.WidthFound.the-variants.{Found as WidthOf, NoEntry}
-use Rattle.class.specs.Classes.{shipClass, widthClass, depthClass}
+use Rattle.width.specs.declared.Entries.{Entries}
+use Rattle.width.specs.declared.EntriesFound.{EntriesFound}
+use Rattle.width.specs.declared.EntriesFound.the-variants.{Entered, NoEntry}
+use Rattle.width.specs.declared.WidthFault.the-variants.{BendTooTight, NoWidthEntry}
+use Rattle.class.specs.Classes.{classesOf}
 use Rattle.design.specs.declared.Figures.{Figures}
-use Rattle.design.specs.declared.Reason.the-variants.{WrongLength, SpareBitSet, BadField, WrongTable, TooFewReadings, RangeTooWide, BendTooTight, NoWidthEntry, NoDepth}
+use Rattle.design.specs.declared.Reason.the-variants.{NoSheet, NoLevel, NoWidth, NoDepth}
 use Rattle.design.specs.declared.Answer.{Answer}
 use Rattle.design.specs.declared.Answer.the-variants.{Answered, Refused}
 
@@ -52,19 +55,15 @@ depthStretch s level lanes =
       lanes = lanes;
     }
 
--- what its width is worked from, in its lanes and at its sailing depth
+-- what its width is worked from beside its entries, in its lanes and at its sailing depth
 abbrev pub widthStretch : Sheet → Lanes → BelowLevel → WidthStretch
 widthStretch s lanes sailing =
     record {
       beam = s .beam;
       draft = s .draft;
-      speed = s .speed;
-      water = s .water;
       handling = s .handling;
       wind = s .wind;
-      cross = s .cross;
       along = s .along;
-      wave = s .wave;
       aids = s .aids;
       bottom = s .bottom;
       cargo = s .cargo;
@@ -76,46 +75,40 @@ widthStretch s lanes sailing =
     }
 
 -- the figures of a sheet: level, lanes, depth, width, widening and classes
-abbrev pub figuresOf : ℕ → Level → Lanes → DepthFigures → ℕ → ℤ → Figures
-figuresOf deadweight level lanes depth width widening =
+unfoldable pub figuresOf : Sheet → Level → Lanes → ℕ → Entries → DepthFigures → Figures
+figuresOf s level lanes widening entries depth =
     record {
       level = level;
       lanes = lanes;
       sailing = depth .sailing;
       cut = depth .cut;
       datum = datumDepth (depth .cut) level;
-      width = pos width;
-      widening = widening;
+      width = pos (widthOf (widthStretch s lanes (depth .sailing)) entries);
+      widening = pos widening;
       columns = depth .columns;
-      ship = shipClass deadweight;
-      wide = widthClass lanes width;
-      deep = depthClass (depth .sailing);
+      classes = classesOf (s .deadweight) (widthOf (widthStretch s lanes (depth .sailing)) entries) lanes (depth .sailing);
     }
 
--- past the depth: the width of its sailing depth
-abbrev pub byWidth : Sheet → Level → Lanes → ℤ → DepthFigures → WidthFound → Answer
-byWidth s level lanes widening depth (WidthOf width) = Answered (figuresOf (s .deadweight) level lanes depth width widening)
-byWidth s level lanes widening depth NoEntry = Refused NoWidthEntry
-
-unfoldable pub atDepth : Sheet → Level → Lanes → ℤ → DepthFigures → Answer
-atDepth s level lanes widening depth = byWidth s level lanes widening depth (widthOf (widthStretch s lanes (depth .sailing)))
-
 -- 13, 14, 15: no depth, for the depth's own reason
-abbrev pub byDepth : Sheet → Level → Lanes → ℤ → Depth → Answer
-byDepth s level lanes widening (Cut depth) = atDepth s level lanes widening depth
-byDepth s level lanes widening (NoCut fault) = Refused (NoDepth fault)
+abbrev pub byDepth : Sheet → Level → Lanes → ℕ → Entries → Depth → Answer
+byDepth s level lanes widening entries (Cut depth) = Answered (figuresOf s level lanes widening entries depth)
+byDepth s level lanes widening entries (NoCut fault) = Refused (NoDepth fault)
+
+unfoldable pub pastEntries : Sheet → Level → Lanes → ℕ → Entries → Answer
+pastEntries s level lanes widening entries = byDepth s level lanes widening entries (workDepth (depthStretch s level lanes))
 
 -- 8: no width entry, which is known before the depth is
-unfoldable pub pastBend : Sheet → Level → Lanes → ℤ → Answer
-pastBend s level lanes widening =
-    if hasEntries (s .water) (s .speed) (s .cross) (s .wave)
-    then byDepth s level lanes widening (workDepth (depthStretch s level lanes))
-    else Refused NoWidthEntry
+abbrev pub byEntries : Sheet → Level → Lanes → ℕ → EntriesFound → Answer
+byEntries s level lanes widening (Entered entries) = pastEntries s level lanes widening entries
+byEntries s level lanes widening NoEntry = Refused (NoWidth NoWidthEntry)
+
+unfoldable pub pastBend : Sheet → Level → Lanes → ℕ → Answer
+pastBend s level lanes widening = byEntries s level lanes widening (entriesOf (s .water) (s .speed) (s .cross) (s .wave))
 
 -- 7: the bend is too tight
 abbrev pub byBend : Sheet → Level → Lanes → Bend → Answer
-byBend s level lanes (Widening cm) = pastBend s level lanes (pos cm)
-byBend s level lanes TooTight = Refused BendTooTight
+byBend s level lanes (Widening cm) = pastBend s level lanes cm
+byBend s level lanes TooTight = Refused (NoWidth BendTooTight)
 
 abbrev pub lanesFor : Sheet → Lanes
 lanesFor s = lanesOf (s .lanes) (s .channel) (s .ships) (s .speed)
@@ -126,15 +119,13 @@ atLevel s level = byBend s level (lanesFor s) (bendOf (s .turn) (s .radius) (s .
 
 -- 4, 5, 6: what a level off the record may be refused for
 abbrev pub byLevel : Sheet → LevelRead → Answer
-byLevel s (LevelFound level) = atLevel s level
-byLevel s TableWrong = Refused WrongTable
-byLevel s FewReadings = Refused TooFewReadings
-byLevel s RangeWide = Refused RangeTooWide
+byLevel s (Found level) = atLevel s level
+byLevel s (NotFound fault) = Refused (NoLevel fault)
 
 -- the level of a sheet: its own, or the one read off the record
 abbrev pub levelFor : LevelSource → LevelRead → LevelRead
 levelFor FromRecord read = read
-levelFor (Given level) read = LevelFound level
+levelFor (Given level) read = Found level
 
 unfoldable pub ofSheet : Sheet → LevelRead → Answer
 ofSheet s read = byLevel s (levelFor (s .level) read)
@@ -142,9 +133,7 @@ ofSheet s read = byLevel s (levelFor (s .level) read)
 -- 1, 2, 3: what bytes may be refused for
 abbrev pub byReading : SheetRead → LevelRead → Answer
 byReading (Good s) read = ofSheet s read
-byReading NotSheetLong read = Refused WrongLength
-byReading SpareBit read = Refused SpareBitSet
-byReading (FieldBad k) read = Refused (BadField k)
+byReading (Unread fault) read = Refused (NoSheet fault)
 
 -- a design at a level that is already read off the record
 unfoldable pub designAt : List ℕ → LevelRead → Answer

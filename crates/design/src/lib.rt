@@ -1,31 +1,29 @@
 // A design: from any bytes and a level table to its figures, or the reason why there are none (definition, section 8).
 ghost use mathlib.Core.Path.{_≡_};
 ghost use Rattle.design.specs.Design.{designAt, designOf};
-ghost use Rattle.design.specs.Numbers.{numbersOf};
-ghost use Rattle.design.specs.Refusals.{codeOf};
+ghost use Rattle.design.specs.Numbers.{codeOf, numbersOf};
+use class::Classes;
 use datum::BelowChart;
 use datum::BelowLevel;
 use datum::Level;
-use depth::Fault;
+use depth::DepthFault;
+use gauge::LevelFault;
 use gauge::LevelRead;
 use lanes::Lanes;
+use sheet::ReadFault;
 use sheet::SheetRead;
+use width::WidthFault;
 
 mod checks;
 mod numbering;
 mod working;
 
-// Why a sheet is turned away, in the order of the checks.
+// Why a sheet is turned away: the refusal of the room that turns it away.
 pub enum Reason {
-    WrongLength,
-    SpareBitSet,
-    BadField(u8),
-    WrongTable,
-    TooFewReadings,
-    RangeTooWide,
-    BendTooTight,
-    NoWidthEntry,
-    NoDepth(Fault),
+    NoSheet(ReadFault),
+    NoLevel(LevelFault),
+    NoWidth(WidthFault),
+    NoDepth(DepthFault),
 }
 
 // The figures of a sheet that is answered, in cm.
@@ -41,16 +39,16 @@ pub struct Figures {
     pub widening: i32,
     // tried on the worksheet
     pub columns: u8,
-    // classes: by ship, by width, by depth
-    pub ship: u8,
-    pub wide: u8,
-    pub deep: u8,
+    pub classes: Classes,
 }
 
 pub enum Answer {
     Answered(Figures),
     Refused(Reason),
 }
+
+// How many numbers an answer has: code, field and figures.
+pub const COUNT: usize = 13;
 
 // The design of a sheet over a level table.
 pub fn design(bytes: &[u8], table: &[u32]) -> Answer
@@ -66,9 +64,7 @@ pub fn design_at(bytes: &[u8], level: LevelRead) -> Answer
     let reading = sheet::read(bytes);
     match reading {
         SheetRead::Good(sheet) => checks::of_sheet(sheet, level),
-        SheetRead::WrongLength => Answer::Refused(Reason::WrongLength),
-        SheetRead::SpareBitSet => Answer::Refused(Reason::SpareBitSet),
-        SheetRead::BadField(k) => Answer::Refused(Reason::BadField(k as u8)),
+        SheetRead::NoSheet(fault) => Answer::Refused(Reason::NoSheet(fault)),
     }
 }
 
@@ -82,8 +78,8 @@ pub fn code(design: Answer) -> u8
     }
 }
 
-// The thirteen numbers of a design.
-pub fn numbers(design: Answer) -> [i32; 13]
+// The numbers of a design.
+pub fn numbers(design: Answer) -> [i32; COUNT]
     ensures { λ r. ⌜ r ≡ numbersOf design ⌝ }
 {
     match design {

@@ -9,6 +9,7 @@ use datum::Level;
 use depth::DepthFigures;
 use lanes::Lanes;
 use sheet::Sheet;
+use width::Entries;
 
 pub fn depth_stretch(sheet: Sheet, level: Level, lanes: Lanes) -> depth::Stretch
     ensures { λ r. ⌜ r ≡ depthStretch sheet level lanes ⌝ }
@@ -29,21 +30,16 @@ pub fn depth_stretch(sheet: Sheet, level: Level, lanes: Lanes) -> depth::Stretch
     }
 }
 
-pub fn width_stretch(sheet: Sheet, lanes: Lanes, sailing: BelowLevel) -> width::Stretch
+fn width_stretch(sheet: Sheet, lanes: Lanes, sailing: BelowLevel) -> width::Stretch
     ensures { λ r. ⌜ r ≡ widthStretch sheet lanes sailing ⌝ }
 {
-    let cross = sheet.cross;
     let along = sheet.along;
     width::Stretch {
         beam: sheet.beam,
         draft: sheet.draft,
-        speed: sheet.speed,
-        water: sheet.water,
         handling: sheet.handling,
         wind: sheet.wind,
-        cross,
         along,
-        wave: sheet.wave,
         aids: sheet.aids,
         bottom: sheet.bottom,
         cargo: sheet.cargo,
@@ -56,42 +52,39 @@ pub fn width_stretch(sheet: Sheet, lanes: Lanes, sailing: BelowLevel) -> width::
 }
 
 // A figure under 2 ^ 31, as a signed number.
-pub fn signed(figure: u32) -> i32
+fn signed(figure: u32) -> i32
     requires { ⌜ figure < 2 ^ 31 ⌝ }
     ensures { λ r. ⌜ r ≡ pos figure ⌝ }
 {
     figure as i32
 }
 
+// The figures of a sheet at its level, in its lanes, with the widening of its bend, the entries of its width and its depth.
 pub fn figures_of(
-    deadweight: u32,
+    sheet: Sheet,
     level: Level,
     lanes: Lanes,
+    widening: u32,
+    entries: Entries,
     depth: DepthFigures,
-    width: u32,
-    widening: i32,
 ) -> Figures
-    requires { ⌜ width < 2 ^ 31 ⌝ }
-    ensures { λ r. ⌜ r ≡ figuresOf deadweight level lanes depth width widening ⌝ }
+    requires { ⌜ widening < 2 ^ 31 ⌝ }
+    ensures { λ r. ⌜ r ≡ figuresOf sheet level lanes widening entries depth ⌝ }
 {
     let cut = depth.cut;
     let sailing = depth.sailing;
     let datum = datum::datum_depth(cut, level);
-    let ship = class::ship_class(deadweight);
-    let wide = class::width_class(width, lanes);
-    let deep = class::depth_class(sailing);
-    let across = signed(width);
+    let width = width::width_of(width_stretch(sheet, lanes, sailing), entries);
+    let classes = class::classes_of(sheet.deadweight, width, lanes, sailing);
     Figures {
         level,
         lanes,
         sailing,
         cut,
         datum,
-        width: across,
-        widening,
+        width: signed(width),
+        widening: signed(widening),
         columns: depth.columns,
-        ship,
-        wide,
-        deep,
+        classes,
     }
 }
