@@ -14,7 +14,8 @@ use Rattle.sheet.specs.Fields.{groups, count, fields, fieldAt, nth, grea
 use Rattle.sheet.specs.Packing.{size, listed, groupsOf, bytesOf, Bytes}
 use Rattle.sheet.specs.Sheets.{sheetOf, bedFigure, figuresOf, readGroups, readOf, placeOf, Valid}
 use Rattle.sheet.specs.declared.Sheet.{Sheet}
-use Rattle.sheet.specs.declared.SheetRead.the-variants.{Good, WrongLength, SpareBitSet, BadField}
+use Rattle.sheet.specs.declared.SheetRead.the-variants.{Good, NoSheet}
+use Rattle.sheet.specs.declared.ReadFault.the-variants.{WrongLength, SpareBitSet, BadField}
 use Rattle.sheet.proofs.Regroup.{listed-is, listed-length}
 use Rattle.sheet.proofs.RoundTrip.{groups-of-bytes, bytes-of-groups}
 use Rattle.sheet.proofs.Beds.{bed-back}
@@ -82,7 +83,7 @@ accepted b s e = go (eqb (length b) size) (eqb (nth v count) 0) (eqb (firstBad v
     v = groupsOf b
 
     go : (l z n : Bool) → eqb (length b) size ≡ l → eqb (nth v count) 0 ≡ z → eqb (firstBad v) 0 ≡ n
-        → (if l then (if z then (if n then Good (sheetOf v) else BadField (firstBad v)) else SpareBitSet) else WrongLength) ≡ Good s → Accepted b s
+        → (if l then (if z then (if n then Good (sheetOf v) else NoSheet (BadField (firstBad v))) else NoSheet SpareBitSet) else NoSheet WrongLength) ≡ Good s → Accepted b s
     go true true true p q r e =
         record { long = eqb-true _ _ p; spare = eqb-true _ _ q; none = eqb-true _ _ r; sheet = cc }
     go true true false p q r e = let x : _≡_ {A = ℕ} 0 1 = cc in absurd (omega arith)

@@ -1,8 +1,7 @@
 -- What the sheet promises, in the definition's words (sections 1 and 8). Each proof stands where it is cited.
--- Assumes nothing.
 use mathlib.Core.Path.{_≡_}
 use mathlib.Core.List.{List}
-use mathlib.Core.Logic.{_↔_}
+use mathlib.Core.Logic.{_↔_, _≢_}
 use Prim.Native.Nat.{ℕ, _≤_, _<_}
 use lib.ListN.{length, take, drop}
 use Rattle.laws.specs.Extremes.{Least}
@@ -11,29 +10,39 @@ use Rattle.laws.proofs.Unique.{one-answer}
 use Rattle.sheet.specs.Fields.{Bad}
 use Rattle.sheet.specs.Packing.{size, groupsOf, bytesOf, bitsOfBytes, bitsOfGroups, Bytes, SpareSet}
 use Rattle.sheet.specs.Sheets.{figuresOf, readOf, writtenOf, placeOf, Valid}
-use Rattle.sheet.specs.Refusals.{readRows, writtenRows, readNumber, writtenNumber}
+use Rattle.sheet.specs.Refusals.{readRows, writtenRows, readNumber, readField, writtenNumber, writtenField}
 use Rattle.sheet.specs.declared.Sheet.{Sheet}
 use Rattle.sheet.specs.declared.SheetRead.{SheetRead}
-use Rattle.sheet.specs.declared.SheetRead.the-variants.{Good, WrongLength, SpareBitSet, BadField}
+use Rattle.sheet.specs.declared.SheetRead.the-variants.{Good}
 use Rattle.sheet.specs.declared.SheetWritten.{SheetWritten}
-use Rattle.sheet.specs.declared.SheetWritten.the-variants.{Done, PlaceTooSmall, BadField as BadFieldToWrite}
+use Rattle.sheet.specs.declared.SheetWritten.the-variants.{Done}
 use Rattle.sheet.proofs.Packed.{packed}
 use Rattle.sheet.proofs.OneWriting.{one-writing, read-place, Written, written-read}
-use Rattle.sheet.proofs.Reading.{read-exactly, bad-field-exactly}
-use Rattle.sheet.proofs.Writing.{written-exactly, bad-to-write-exactly, refused-unchanged, past-unchanged}
+use Rattle.sheet.proofs.Reading.{read-exactly, wrong-length-exactly, named-exactly, good-exactly}
+use Rattle.sheet.proofs.Writing.{written-exactly, too-small-exactly, named-exactly as named-to-write-exactly, done-exactly, refused-unchanged, past-unchanged}
 use Rattle.sheet.proofs.CaseS.{sheetS, bytesS, s-read, s-written}
 
 -- Fields packed most significant bit first: the bytes' bits in a row are the fields' bits in a row, then the spare bits.
 pub fields-in-a-row : (bytes : List ℕ) → Bytes bytes → bitsOfBytes bytes ≡ bitsOfGroups (groupsOf bytes)
 fields-in-a-row = packed
 
--- Reading: a number is given exactly when its row holds and none checked before it does; every other string of bytes is a sheet.
+-- Reading: a number is given exactly when its row holds and none checked before it does, and 0 where none holds.
 pub read-number : (bytes : List ℕ) → Bytes bytes → Exactly (readRows bytes) (readNumber (readOf bytes))
 read-number = read-exactly
 
+-- 1: not 28 bytes, whatever they are.
+pub number-1 : (bytes : List ℕ) → (readNumber (readOf bytes) ≡ 1) ↔ (length bytes ≢ size)
+number-1 = wrong-length-exactly
+
 -- 3: the first bad field's number is given.
-pub number-3 : (bytes : List ℕ) → Bytes bytes → (k : ℕ) → (readOf bytes ≡ BadField k) ↔ (Least (Bad (groupsOf bytes)) k × NoneBefore (readRows bytes) 3)
-number-3 = bad-field-exactly
+pub number-3 : (bytes : List ℕ) → Bytes bytes → (k : ℕ)
+    → ((readNumber (readOf bytes) ≡ 3) × (readField (readOf bytes) ≡ k)) ↔ (Least (Bad (groupsOf bytes)) k × NoneBefore (readRows bytes) 3)
+number-3 = named-exactly
+
+-- Every other string of bytes is a sheet.
+pub else-a-sheet : (bytes : List ℕ) → Bytes bytes
+    → ((s : Sheet) × (readOf bytes ≡ Good s)) ↔ ((length bytes ≡ size) × (¬ SpareSet bytes) × ((k : ℕ) → ¬ Bad (groupsOf bytes) k))
+else-a-sheet = good-exactly
 
 -- What is read is a valid sheet, and the bytes are its writing.
 pub read-is-valid : (bytes : List ℕ) (s : Sheet) → Bytes bytes → readOf bytes ≡ Good s → Written bytes s
@@ -47,14 +56,23 @@ written-and-read = read-place
 pub each-one-writing : (a b : List ℕ) (s : Sheet) → Bytes a → Bytes b → readOf a ≡ Good s → readOf b ≡ Good s → a ≡ b
 each-one-writing = one-writing
 
--- Writing: a number is given exactly when its row holds and none checked before it does; every other writing is done.
+-- Writing: a number is given exactly when its row holds and none checked before it does, and 0 where none holds.
 pub written-number : (s : Sheet) (place : List ℕ) → Exactly (writtenRows s place) (writtenNumber (writtenOf s place))
 written-number = written-exactly
 
+-- 12, tested first: a place lent for writing too small.
+pub number-12 : (s : Sheet) (place : List ℕ) → (writtenNumber (writtenOf s place) ≡ 12) ↔ (length place < size)
+number-12 = too-small-exactly
+
 -- 3 in writing: the first bad field's number is given.
 pub number-3-written : (s : Sheet) (place : List ℕ) (k : ℕ)
-    → (writtenOf s place ≡ BadFieldToWrite k) ↔ (Least (Bad (figuresOf s)) k × NoneBefore (writtenRows s place) 3)
-number-3-written = bad-to-write-exactly
+    → ((writtenNumber (writtenOf s place) ≡ 3) × (writtenField (writtenOf s place) ≡ k))
+    ↔ (Least (Bad (figuresOf s)) k × NoneBefore (writtenRows s place) 3)
+number-3-written = named-to-write-exactly
+
+-- Every other writing is done.
+pub else-done : (s : Sheet) (place : List ℕ) → (writtenOf s place ≡ Done) ↔ ((size ≤ length place) × ((k : ℕ) → ¬ Bad (figuresOf s) k))
+else-done = done-exactly
 
 -- A refused writing changes no byte.
 pub refused-changes-nothing : (s : Sheet) (place : List ℕ) → (writtenOf s place ≡ Done → ⊥) → placeOf s place ≡ place

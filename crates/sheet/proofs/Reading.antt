@@ -1,9 +1,8 @@
 -- Each answer of reading, and exactly when it is given.
--- Assumes nothing.
-use mathlib.Core.Path.{_≡_, refl, ap}
+use mathlib.Core.Path.{_≡_, refl, ap, sym}
 use mathlib.Core.Bool.{Bool, true, false}
 use mathlib.Core.List.{List}
-use mathlib.Core.Logic.{_↔_}
+use mathlib.Core.Logic.{_↔_, _≢_}
 use Prim.Native.Nat.{ℕ}
 use native.Mathlib.Omega.{arith}
 use borrow.Author.Tests.{eqb-true, eqb-false}
@@ -15,19 +14,22 @@ use Rattle.laws.specs.Rows.{NoneBefore, Exactly}
 use Rattle.laws.proofs.Extremes.{least-only}
 use Rattle.laws.proofs.Rows.{Told, stop, past, Call, exactly, refusal-exactly}
 use Rattle.sheet.specs.Fields.{count, nth, firstBad, Bad}
-use Rattle.sheet.specs.Packing.{size, groupsOf, Bytes}
-use Rattle.sheet.specs.Refusals.{readRows, readNumber}
+use Rattle.sheet.specs.Packing.{size, groupsOf, Bytes, SpareSet}
+use Rattle.sheet.specs.Refusals.{readRows, readNumber, readField}
 use Rattle.sheet.specs.Sheets.{sheetOf, readGroups, readOf}
+use Rattle.sheet.specs.declared.Sheet.{Sheet}
 use Rattle.sheet.specs.declared.SheetRead.{SheetRead}
-use Rattle.sheet.specs.declared.SheetRead.the-variants.{Good, WrongLength, SpareBitSet, BadField}
+use Rattle.sheet.specs.declared.SheetRead.the-variants.{Good, NoSheet}
+use Rattle.sheet.specs.declared.ReadFault.the-variants.{WrongLength, SpareBitSet, BadField}
+use Rattle.sheet.proofs.Answers.{read-length, read-good}
 use Rattle.sheet.proofs.BadFields.{first-least, none-bad}
 use Rattle.sheet.proofs.Spare.{spare-set}
 
 -- why a string of bytes is read as it is
 pub data Why (b : List ℕ) : SheetRead → Type 0 where
-  wrong-length : (length b ≡ size → ⊥) → Why b WrongLength
-  spare-bit : length b ≡ size → (nth (groupsOf b) count ≡ 0 → ⊥) → Why b SpareBitSet
-  bad-field : (k : ℕ) → length b ≡ size → nth (groupsOf b) count ≡ 0 → firstBad (groupsOf b) ≡ k → (k ≡ 0 → ⊥) → Why b (BadField k)
+  wrong-length : (length b ≡ size → ⊥) → Why b (NoSheet WrongLength)
+  spare-bit : length b ≡ size → (nth (groupsOf b) count ≡ 0 → ⊥) → Why b (NoSheet SpareBitSet)
+  bad-field : (k : ℕ) → length b ≡ size → nth (groupsOf b) count ≡ 0 → firstBad (groupsOf b) ≡ k → (k ≡ 0 → ⊥) → Why b (NoSheet (BadField k))
   good : length b ≡ size → nth (groupsOf b) count ≡ 0 → firstBad (groupsOf b) ≡ 0 → Why b (Good (sheetOf (groupsOf b)))
 
 pub why : (b : List ℕ) → Why b (readOf b)
@@ -38,7 +40,7 @@ why b = go (eqb (length b) size) (eqb (nth v count) 0) (eqb (firstBad v) 0) refl
     v = groupsOf b
 
     go : (l z n : Bool) → eqb (length b) size ≡ l → eqb (nth v count) 0 ≡ z → eqb (firstBad v) 0 ≡ n
-        → Why b (if l then (if z then (if n then Good (sheetOf v) else BadField (firstBad v)) else SpareBitSet) else WrongLength)
+        → Why b (if l then (if z then (if n then Good (sheetOf v) else NoSheet (BadField (firstBad v))) else NoSheet SpareBitSet) else NoSheet WrongLength)
     go true true true p q r = good (eqb-true _ _ p) (eqb-true _ _ q) (eqb-true _ _ r)
     go true true false p q r = bad-field (firstBad v) (eqb-true _ _ p) (eqb-true _ _ q) refl (eqb-false _ _ r)
     go true false n p q r = spare-bit (eqb-true _ _ p) (eqb-false _ _ q)
@@ -47,12 +49,22 @@ why b = go (eqb (length b) size) (eqb (nth v count) 0) (eqb (firstBad v) 0) refl
 -- what is told of a reading: a sheet is that of the bytes' groups, and a bad field that is named is the first
 abbrev pub Unread : List ℕ → SheetRead → Type 0
 Unread b (Good s) = ⊥
-Unread b WrongLength = Unit {0}
-Unread b SpareBitSet = Unit {0}
-Unread b (BadField k) = Least (Bad (groupsOf b)) k
+Unread b (NoSheet WrongLength) = Unit {0}
+Unread b (NoSheet SpareBitSet) = Unit {0}
+Unread b (NoSheet (BadField k)) = Least (Bad (groupsOf b)) k
 
 abbrev pub reads : List ℕ → Call SheetRead
 reads b = record { number = readNumber; answered = λ r. r ≡ Good (sheetOf (groupsOf b)); refused = Unread b }
+
+-- 1 exactly when there are not 28 bytes
+pub wrong-length-exactly : (b : List ℕ) → (readNumber (readOf b) ≡ 1) ↔ (length b ≢ size)
+wrong-length-exactly b = ((λ e. go (readOf b) (why b) e), (λ h. ap readNumber (sym (read-length b h))))
+  where
+    go : (r : SheetRead) → Why b r → readNumber r ≡ 1 → length b ≢ size
+    go r (wrong-length h) e = h
+    go r (spare-bit l z) e = absurd (omega arith)
+    go r (bad-field k l z f n) e = absurd (omega arith)
+    go r (good l z f) e = absurd (omega arith)
 
 module _ (b : List ℕ) (small : Bytes b) where
   pub read-told : Told (reads b) (readRows b) (readOf b)
@@ -71,13 +83,50 @@ module _ (b : List ℕ) (small : Bytes b) where
   read-exactly = exactly (reads b) (readRows b) tt (readOf b) read-told
 
   -- 3 with k exactly when k is the least bad field, and neither 1 nor 2
-  pub bad-field-exactly : (k : ℕ) → (readOf b ≡ BadField k) ↔ (Least (Bad (groupsOf b)) k × NoneBefore (readRows b) 3)
+  pub bad-field-exactly : (k : ℕ) → (readOf b ≡ NoSheet (BadField k)) ↔ (Least (Bad (groupsOf b)) k × NoneBefore (readRows b) 3)
   bad-field-exactly k =
-      refusal-exactly (reads b) (readRows b) tt (readOf b) read-told (BadField k) (omega arith)
+      refusal-exactly (reads b) (readRows b) tt (readOf b) read-told (NoSheet (BadField k)) (omega arith)
       (λ least. record { field = k; bad = least .holds }) (only (readOf b))
     where
-      only : (r : SheetRead) → readNumber r ≡ 3 → Unread b r → Least (Bad (groupsOf b)) k → r ≡ BadField k
+      only : (r : SheetRead) → readNumber r ≡ 3 → Unread b r → Least (Bad (groupsOf b)) k → r ≡ NoSheet (BadField k)
       only (Good s) e u l = absurd u
-      only WrongLength e u l = absurd (omega arith)
-      only SpareBitSet e u l = absurd (omega arith)
-      only (BadField j) e u l = ap BadField (least-only (Bad (groupsOf b)) j k u l)
+      only (NoSheet WrongLength) e u l = absurd (omega arith)
+      only (NoSheet SpareBitSet) e u l = absurd (omega arith)
+      only (NoSheet (BadField j)) e u l = ap (λ (n : ℕ). NoSheet (BadField n)) (least-only (Bad (groupsOf b)) j k u l)
+
+  pub named-exactly : (k : ℕ)
+      → ((readNumber (readOf b) ≡ 3) × (readField (readOf b) ≡ k)) ↔ (Least (Bad (groupsOf b)) k × NoneBefore (readRows b) 3)
+  named-exactly k = (
+    (λ e. bad-field-exactly k .0 (named (readOf b) (e .0) (e .1))),
+    (λ h. let e = bad-field-exactly k .1 h in (ap readNumber e, ap readField e)),
+  )
+    where
+      named : (r : SheetRead) → readNumber r ≡ 3 → readField r ≡ k → r ≡ NoSheet (BadField k)
+      named (Good s) e f = absurd (omega arith)
+      named (NoSheet WrongLength) e f = absurd (omega arith)
+      named (NoSheet SpareBitSet) e f = absurd (omega arith)
+      named (NoSheet (BadField j)) e f = ap (λ (n : ℕ). NoSheet (BadField n)) f
+
+  -- a sheet exactly when none of the three holds
+  pub good-exactly : ((s : Sheet) × (readOf b ≡ Good s)) ↔ ((length b ≡ size) × (¬ SpareSet b) × ((k : ℕ) → ¬ Bad (groupsOf b) k))
+  good-exactly = (
+    (λ g. go (g .0) (readOf b) (why b) (g .1)),
+    (λ h. (
+      sheetOf (groupsOf b),
+      sym (read-good b (groupsOf b) (h .0) refl 0 _ (clear (h .1)) (sym (none-bad (groupsOf b) .1 (h .2))) refl refl),
+    )),
+  )
+    where
+      go : (s : Sheet) (r : SheetRead) → Why b r → r ≡ Good s
+          → (length b ≡ size) × (¬ SpareSet b) × ((k : ℕ) → ¬ Bad (groupsOf b) k)
+      go s r (wrong-length h) e = let x : _≡_ {A = ℕ} 0 1 = cc in absurd (omega arith)
+      go s r (spare-bit l z) e = let x : _≡_ {A = ℕ} 0 1 = cc in absurd (omega arith)
+      go s r (bad-field j l z f n) e = let x : _≡_ {A = ℕ} 0 1 = cc in absurd (omega arith)
+      go s r (good l z f) e = (l, (λ w. spare-set b small .0 w z), none-bad (groupsOf b) .0 f)
+
+      clear : ¬ SpareSet b → nth (groupsOf b) count ≡ 0
+      clear h = zero (eqb (nth (groupsOf b) count) 0) refl
+        where
+          zero : (t : Bool) → eqb (nth (groupsOf b) count) 0 ≡ t → nth (groupsOf b) count ≡ 0
+          zero true e = eqb-true (nth (groupsOf b) count) 0 e
+          zero false e = absurd (h (spare-set b small .1 (eqb-false (nth (groupsOf b) count) 0 e)))

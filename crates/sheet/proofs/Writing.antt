@@ -1,6 +1,5 @@
 -- Each answer of writing, exactly when it is given, and what the place then holds.
--- Assumes nothing.
-use mathlib.Core.Path.{_≡_, refl, ap}
+use mathlib.Core.Path.{_≡_, refl, ap, sym}
 use mathlib.Core.Bool.{Bool, true, false}
 use mathlib.Core.List.{List, _++_}
 use mathlib.Core.Logic.{_↔_}
@@ -18,17 +17,19 @@ use Rattle.laws.proofs.Rows.{Told, stop, past, Call, exactly, refusal-exactly}
 use Rattle.sheet.specs.Fields.{firstBad, Bad}
 use Rattle.sheet.specs.Packing.{size, bytesOf}
 use Rattle.sheet.specs.Sheets.{figuresOf, writtenOf, placeOf}
-use Rattle.sheet.specs.Refusals.{writtenRows, writtenNumber}
+use Rattle.sheet.specs.Refusals.{writtenRows, writtenNumber, writtenField}
 use Rattle.sheet.specs.declared.Sheet.{Sheet}
 use Rattle.sheet.specs.declared.SheetWritten.{SheetWritten}
-use Rattle.sheet.specs.declared.SheetWritten.the-variants.{Done, PlaceTooSmall, BadField as BadFieldToWrite}
+use Rattle.sheet.specs.declared.SheetWritten.the-variants.{Done, NotWritten}
+use Rattle.sheet.specs.declared.WriteFault.the-variants.{PlaceTooSmall, BadField as BadFieldToWrite}
+use Rattle.sheet.proofs.Answers.{write-small, write-done}
 use Rattle.sheet.proofs.BadFields.{first-least, none-bad}
 use Rattle.sheet.proofs.OneWriting.{bytes-length}
 
 -- why a writing is answered as it is, and what it leaves
 pub data Wrote (s : Sheet) (place : List ℕ) : SheetWritten → List ℕ → Type 0 where
-  too-small : length place < size → Wrote s place PlaceTooSmall place
-  bad-field : (k : ℕ) → size ≤ length place → firstBad (figuresOf s) ≡ k → (k ≡ 0 → ⊥) → Wrote s place (BadFieldToWrite k) place
+  too-small : length place < size → Wrote s place (NotWritten PlaceTooSmall) place
+  bad-field : (k : ℕ) → size ≤ length place → firstBad (figuresOf s) ≡ k → (k ≡ 0 → ⊥) → Wrote s place (NotWritten (BadFieldToWrite k)) place
   done : size ≤ length place → firstBad (figuresOf s) ≡ 0 → Wrote s place Done (bytesOf (figuresOf s) ++ drop size place)
 
 pub wrote : (s : Sheet) (place : List ℕ) → Wrote s place (writtenOf s place) (placeOf s place)
@@ -39,7 +40,7 @@ wrote s place = go (ltb (length place) size) (eqb (firstBad v) 0) refl refl
     v = figuresOf s
 
     go : (l n : Bool) → ltb (length place) size ≡ l → eqb (firstBad v) 0 ≡ n
-        → Wrote s place (if l then PlaceTooSmall else (if n then Done else BadFieldToWrite (firstBad v)))
+        → Wrote s place (if l then NotWritten PlaceTooSmall else (if n then Done else NotWritten (BadFieldToWrite (firstBad v))))
         (if l then place else (if n then bytesOf v ++ drop size place else place))
     go true n p q = too-small (ltb-true _ _ p)
     go false true p q = done (ltb-false _ _ p) (eqb-true _ _ q)
@@ -48,8 +49,8 @@ wrote s place = go (ltb (length place) size) (eqb (firstBad v) 0) refl refl
 -- what is told of a writing: a bad field that is named is the first
 abbrev pub Unwritten : Sheet → SheetWritten → Type 0
 Unwritten s Done = ⊥
-Unwritten s PlaceTooSmall = Unit {0}
-Unwritten s (BadFieldToWrite k) = Least (Bad (figuresOf s)) k
+Unwritten s (NotWritten PlaceTooSmall) = Unit {0}
+Unwritten s (NotWritten (BadFieldToWrite k)) = Least (Bad (figuresOf s)) k
 
 abbrev pub writes : Sheet → Call SheetWritten
 writes s = record { number = writtenNumber; answered = λ w. w ≡ Done; refused = Unwritten s }
@@ -69,15 +70,49 @@ module _ (s : Sheet) (place : List ℕ) where
   written-exactly = exactly (writes s) (writtenRows s place) tt (writtenOf s place) written-told
 
   -- 3 with k exactly when k is the least bad field, and not 12
-  pub bad-to-write-exactly : (k : ℕ) → (writtenOf s place ≡ BadFieldToWrite k) ↔ (Least (Bad (figuresOf s)) k × NoneBefore (writtenRows s place) 3)
+  pub bad-to-write-exactly : (k : ℕ) → (writtenOf s place ≡ NotWritten (BadFieldToWrite k)) ↔ (Least (Bad (figuresOf s)) k × NoneBefore (writtenRows s place) 3)
   bad-to-write-exactly k =
-      refusal-exactly (writes s) (writtenRows s place) tt (writtenOf s place) written-told (BadFieldToWrite k) (omega arith)
+      refusal-exactly (writes s) (writtenRows s place) tt (writtenOf s place) written-told (NotWritten (BadFieldToWrite k)) (omega arith)
       (λ least. record { field = k; bad = least .holds }) (only (writtenOf s place))
     where
-      only : (w : SheetWritten) → writtenNumber w ≡ 3 → Unwritten s w → Least (Bad (figuresOf s)) k → w ≡ BadFieldToWrite k
+      only : (w : SheetWritten) → writtenNumber w ≡ 3 → Unwritten s w → Least (Bad (figuresOf s)) k → w ≡ NotWritten (BadFieldToWrite k)
       only Done e u l = absurd u
-      only PlaceTooSmall e u l = absurd (omega arith)
-      only (BadFieldToWrite j) e u l = ap BadFieldToWrite (least-only (Bad (figuresOf s)) j k u l)
+      only (NotWritten PlaceTooSmall) e u l = absurd (omega arith)
+      only (NotWritten (BadFieldToWrite j)) e u l = ap (λ (n : ℕ). NotWritten (BadFieldToWrite n)) (least-only (Bad (figuresOf s)) j k u l)
+
+  pub named-exactly : (k : ℕ)
+      → ((writtenNumber (writtenOf s place) ≡ 3) × (writtenField (writtenOf s place) ≡ k)) ↔ (Least (Bad (figuresOf s)) k × NoneBefore (writtenRows s place) 3)
+  named-exactly k = (
+    (λ e. bad-to-write-exactly k .0 (named (writtenOf s place) (e .0) (e .1))),
+    (λ h. let e = bad-to-write-exactly k .1 h in (ap writtenNumber e, ap writtenField e)),
+  )
+    where
+      named : (w : SheetWritten) → writtenNumber w ≡ 3 → writtenField w ≡ k → w ≡ NotWritten (BadFieldToWrite k)
+      named Done e f = absurd (omega arith)
+      named (NotWritten PlaceTooSmall) e f = absurd (omega arith)
+      named (NotWritten (BadFieldToWrite j)) e f = ap (λ (n : ℕ). NotWritten (BadFieldToWrite n)) f
+
+  -- 12 exactly when the place has not 28 bytes
+  pub too-small-exactly : (writtenNumber (writtenOf s place) ≡ 12) ↔ (length place < size)
+  too-small-exactly =
+      ((λ e. go (writtenOf s place) (placeOf s place) (wrote s place) e), (λ h. ap writtenNumber (sym (write-small s place h .0))))
+    where
+      go : (w : SheetWritten) (o : List ℕ) → Wrote s place w o → writtenNumber w ≡ 12 → length place < size
+      go w o (too-small h) e = h
+      go w o (bad-field k l f n) e = absurd (omega arith)
+      go w o (done l f) e = absurd (omega arith)
+
+  -- done exactly when neither holds
+  pub done-exactly : (writtenOf s place ≡ Done) ↔ ((size ≤ length place) × ((k : ℕ) → ¬ Bad (figuresOf s) k))
+  done-exactly = (
+    (λ e. go (writtenOf s place) (placeOf s place) (wrote s place) e),
+    (λ h. sym (write-done s place (figuresOf s) 0 (h .0) refl (sym (none-bad (figuresOf s) .1 (h .1))) _ refl refl .0)),
+  )
+    where
+      go : (w : SheetWritten) (o : List ℕ) → Wrote s place w o → w ≡ Done → (size ≤ length place) × ((k : ℕ) → ¬ Bad (figuresOf s) k)
+      go w o (too-small h) e = let x : _≡_ {A = ℕ} 0 1 = cc in absurd (omega arith)
+      go w o (bad-field j l f n) e = let x : _≡_ {A = ℕ} 0 1 = cc in absurd (omega arith)
+      go w o (done l f) e = (l, none-bad (figuresOf s) .0 f)
 
   -- a refused writing changes no byte
   pub refused-unchanged : (writtenOf s place ≡ Done → ⊥) → placeOf s place ≡ place

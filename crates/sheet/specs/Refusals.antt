@@ -1,4 +1,4 @@
--- The rows of section 8 that reading and writing check, and the number and the field that each answer stands for.
+-- The rows of section 8 that reading and writing check, and the number and the field of each fault.
 use mathlib.Core.List.{List, [], _∷_}
 use mathlib.Core.Logic.{_≢_}
 use Prim.Native.Nat.{ℕ, _<_}
@@ -9,9 +9,13 @@ use Rattle.sheet.specs.Packing.{size, groupsOf, SpareSet}
 use Rattle.sheet.specs.Sheets.{figuresOf}
 use Rattle.sheet.specs.declared.Sheet.{Sheet}
 use Rattle.sheet.specs.declared.SheetRead.{SheetRead}
-use Rattle.sheet.specs.declared.SheetRead.the-variants.{Good, WrongLength, SpareBitSet, BadField}
+use Rattle.sheet.specs.declared.SheetRead.the-variants.{Good, NoSheet}
+use Rattle.sheet.specs.declared.ReadFault.{ReadFault}
+use Rattle.sheet.specs.declared.ReadFault.the-variants.{WrongLength, SpareBitSet, BadField}
 use Rattle.sheet.specs.declared.SheetWritten.{SheetWritten}
-use Rattle.sheet.specs.declared.SheetWritten.the-variants.{Done, PlaceTooSmall, BadField as BadFieldToWrite}
+use Rattle.sheet.specs.declared.SheetWritten.the-variants.{Done, NotWritten}
+use Rattle.sheet.specs.declared.WriteFault.{WriteFault}
+use Rattle.sheet.specs.declared.WriteFault.the-variants.{PlaceTooSmall, BadField as BadFieldToWrite}
 
 -- 3: a bad field
 pub record SomeBad (figures : List ℕ) : Type 0 where
@@ -33,24 +37,39 @@ writtenRows s place =
     ∷ (3 when SomeBad (figuresOf s))
     ∷ []
 
+-- the number of a fault in reading, and the field that it names, 0 where it names none
+abbrev pub readFaultNumber : ReadFault → ℕ
+readFaultNumber WrongLength = 1
+readFaultNumber SpareBitSet = 2
+readFaultNumber (BadField field) = 3
+
+abbrev pub readFaultField : ReadFault → ℕ
+readFaultField WrongLength = 0
+readFaultField SpareBitSet = 0
+readFaultField (BadField field) = field
+
+-- the number and the field of what bytes are read as: the fault's, 0 for a sheet
 abbrev pub readNumber : SheetRead → ℕ
 readNumber (Good s) = 0
-readNumber WrongLength = 1
-readNumber SpareBitSet = 2
-readNumber (BadField k) = 3
+readNumber (NoSheet fault) = readFaultNumber fault
 
 abbrev pub readField : SheetRead → ℕ
 readField (Good s) = 0
-readField WrongLength = 0
-readField SpareBitSet = 0
-readField (BadField k) = k
+readField (NoSheet fault) = readFaultField fault
+
+-- the same of writing
+abbrev pub writeFaultNumber : WriteFault → ℕ
+writeFaultNumber PlaceTooSmall = 12
+writeFaultNumber (BadFieldToWrite field) = 3
+
+abbrev pub writeFaultField : WriteFault → ℕ
+writeFaultField PlaceTooSmall = 0
+writeFaultField (BadFieldToWrite field) = field
 
 abbrev pub writtenNumber : SheetWritten → ℕ
 writtenNumber Done = 0
-writtenNumber PlaceTooSmall = 12
-writtenNumber (BadFieldToWrite k) = 3
+writtenNumber (NotWritten fault) = writeFaultNumber fault
 
 abbrev pub writtenField : SheetWritten → ℕ
 writtenField Done = 0
-writtenField PlaceTooSmall = 0
-writtenField (BadFieldToWrite k) = k
+writtenField (NotWritten fault) = writeFaultField fault

@@ -13,9 +13,11 @@ use Rattle.sheet.specs.declared.LevelSource.{LevelSource}
 use Rattle.sheet.specs.declared.LevelSource.the-variants.{FromRecord, Given}
 use Rattle.sheet.specs.declared.Sheet.{Sheet}
 use Rattle.sheet.specs.declared.SheetRead.{SheetRead}
-use Rattle.sheet.specs.declared.SheetRead.the-variants.{Good, WrongLength, SpareBitSet, BadField}
+use Rattle.sheet.specs.declared.SheetRead.the-variants.{Good, NoSheet}
+use Rattle.sheet.specs.declared.ReadFault.the-variants.{WrongLength, SpareBitSet, BadField}
 use Rattle.sheet.specs.declared.SheetWritten.{SheetWritten}
-use Rattle.sheet.specs.declared.SheetWritten.the-variants.{Done, PlaceTooSmall, BadField as BadFieldToWrite}
+use Rattle.sheet.specs.declared.SheetWritten.the-variants.{Done, NotWritten}
+use Rattle.sheet.specs.declared.WriteFault.the-variants.{PlaceTooSmall, BadField as BadFieldToWrite}
 
 -- fields 27 and 28: a level off the record, or given with its figure
 unfoldable pub levelSourceOf : ℕ → ℕ → LevelSource
@@ -90,19 +92,19 @@ figuresOf s =
 unfoldable pub readGroups : List ℕ → SheetRead
 readGroups figures =
     if nth figures count =ᵇ 0
-    then (if firstBad figures =ᵇ 0 then Good (sheetOf figures) else BadField (firstBad figures))
-    else SpareBitSet
+    then (if firstBad figures =ᵇ 0 then Good (sheetOf figures) else NoSheet (BadField (firstBad figures)))
+    else NoSheet SpareBitSet
 
 -- what any string of bytes is read as
 unfoldable pub readOf : List ℕ → SheetRead
-readOf bytes = if length bytes =ᵇ size then readGroups (groupsOf bytes) else WrongLength
+readOf bytes = if length bytes =ᵇ size then readGroups (groupsOf bytes) else NoSheet WrongLength
 
 -- what writing a sheet into a place answers
 unfoldable pub writtenOf : Sheet → List ℕ → SheetWritten
 writtenOf s place =
     if length place <ᵇ size
-    then PlaceTooSmall
-    else (if firstBad (figuresOf s) =ᵇ 0 then Done else BadFieldToWrite (firstBad (figuresOf s)))
+    then NotWritten PlaceTooSmall
+    else (if firstBad (figuresOf s) =ᵇ 0 then Done else NotWritten (BadFieldToWrite (firstBad (figuresOf s))))
 
 -- what the place then holds: the sheet's bytes first, or what it held
 unfoldable pub placeOf : Sheet → List ℕ → List ℕ

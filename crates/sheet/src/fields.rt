@@ -89,14 +89,14 @@ fn outside(figures: [u32; GROUPS], i: usize) -> bool
 }
 
 // The number of the first field past the first `from`, up to `to`, that is outside its values; 0 where there is none.
-fn first_outside(figures: [u32; GROUPS], from: usize, to: usize) -> u32
+fn first_outside(figures: [u32; GROUPS], from: usize, to: usize) -> u8
     requires { ⌜ to ≤ count ⌝ }
     ensures { λ r. ⌜ r ≡ firstOutside figures from to ⌝ }
 {
     let mut i = from;
     while i < to {
         if outside(figures, i) {
-            return i as u32 + 1;
+            return i as u8 + 1;
         }
         i += 1;
     }
@@ -112,13 +112,13 @@ fn bad_at(figures: [u32; GROUPS], i: usize) -> bool
 }
 
 // The number of the first bad field past the first `from`, 0 where there is none.
-fn first_bad_from(figures: [u32; GROUPS], from: usize) -> u32
+fn first_bad_from(figures: [u32; GROUPS], from: usize) -> u8
     ensures { λ r. ⌜ r ≡ firstBadFrom figures from ⌝ }
 {
     let mut at = from;
     while at < COUNT {
         if bad_at(figures, at) {
-            return at as u32 + 1;
+            return at as u8 + 1;
         }
         at += 1;
     }
@@ -127,7 +127,7 @@ fn first_bad_from(figures: [u32; GROUPS], from: usize) -> u32
 
 // The number of the first bad field, 0 where there is none. Up to field 25 none is tested against another. Short runs of
 // fields: the compiler lays each out flat, with the table's numbers in their places.
-pub fn first_bad(figures: [u32; GROUPS]) -> u32
+pub fn first_bad(figures: [u32; GROUPS]) -> u8
     ensures { λ r. ⌜ r ≡ firstBad figures ⌝ }
 {
     let of_nine = first_outside(figures, 0, 9);

@@ -1,5 +1,6 @@
 // The sheet: 28 bytes, 28 fields packed most significant bit first (definition, section 1).
 ghost use mathlib.Core.Path.{_≡_};
+ghost use Rattle.sheet.specs.Refusals.{readFaultNumber, readFaultField, writeFaultNumber, writeFaultField};
 ghost use Rattle.sheet.specs.Sheets.{readOf, writtenOf, placeOf};
 use datum::AlongCurrent;
 use datum::BelowChart;
@@ -70,19 +71,73 @@ pub struct Sheet {
     pub level: LevelSource,
 }
 
-// What a string of bytes is read as: a sheet, or why it is none.
-pub enum SheetRead {
-    Good(Sheet),
+// Why a string of bytes is no sheet.
+pub enum ReadFault {
     WrongLength,
     SpareBitSet,
-    BadField(u32),
+    // by its number
+    BadField(u8),
+}
+
+// What a string of bytes is read as.
+pub enum SheetRead {
+    Good(Sheet),
+    NoSheet(ReadFault),
+}
+
+// Why a sheet is not written.
+pub enum WriteFault {
+    PlaceTooSmall,
+    // by its number
+    BadField(u8),
 }
 
 // What writing a sheet answers.
 pub enum SheetWritten {
     Done,
-    PlaceTooSmall,
-    BadField(u32),
+    NotWritten(WriteFault),
+}
+
+// The number that turns bytes away for a fault.
+pub fn read_fault_number(fault: ReadFault) -> u8
+    ensures { λ r. ⌜ r ≡ readFaultNumber fault ⌝ }
+{
+    match fault {
+        ReadFault::WrongLength => 1,
+        ReadFault::SpareBitSet => 2,
+        ReadFault::BadField(_) => 3,
+    }
+}
+
+// The field that a fault names, 0 where it names none.
+pub fn read_fault_field(fault: ReadFault) -> u8
+    ensures { λ r. ⌜ r ≡ readFaultField fault ⌝ }
+{
+    match fault {
+        ReadFault::WrongLength => 0,
+        ReadFault::SpareBitSet => 0,
+        ReadFault::BadField(field) => field,
+    }
+}
+
+// The number that turns a writing away for a fault.
+pub fn write_fault_number(fault: WriteFault) -> u8
+    ensures { λ r. ⌜ r ≡ writeFaultNumber fault ⌝ }
+{
+    match fault {
+        WriteFault::PlaceTooSmall => 12,
+        WriteFault::BadField(_) => 3,
+    }
+}
+
+// The field that a fault names, 0 where it names none.
+pub fn write_fault_field(fault: WriteFault) -> u8
+    ensures { λ r. ⌜ r ≡ writeFaultField fault ⌝ }
+{
+    match fault {
+        WriteFault::PlaceTooSmall => 0,
+        WriteFault::BadField(field) => field,
+    }
 }
 
 // Any string of bytes as a sheet, or why it is none.
@@ -90,15 +145,15 @@ pub fn read(bytes: &[u8]) -> SheetRead
     ensures { λ r. ⌜ r ≡ readOf (now (bytes .entry)) ⌝ }
 {
     if bytes.len() != 28 {
-        return SheetRead::WrongLength;
+        return SheetRead::NoSheet(ReadFault::WrongLength);
     }
     let groups = bits::split(bytes);
     if groups[fields::COUNT] != 0 {
-        return SheetRead::SpareBitSet;
+        return SheetRead::NoSheet(ReadFault::SpareBitSet);
     }
     let bad = fields::first_bad(groups);
     if bad != 0 {
-        return SheetRead::BadField(bad);
+        return SheetRead::NoSheet(ReadFault::BadField(bad));
     }
     SheetRead::Good(figures::sheet_of(groups))
 }
@@ -108,12 +163,12 @@ pub fn write(sheet: Sheet, place: &mut [u8]) -> SheetWritten
     ensures { λ r. ⌜ (r ≡ writtenOf sheet (now (place .entry))) × (now (place .exit) ≡ placeOf sheet (now (place .entry))) ⌝ }
 {
     if place.len() < 28 {
-        return SheetWritten::PlaceTooSmall;
+        return SheetWritten::NotWritten(WriteFault::PlaceTooSmall);
     }
     let groups = figures::figures_of(sheet);
     let bad = fields::first_bad(groups);
     if bad != 0 {
-        return SheetWritten::BadField(bad);
+        return SheetWritten::NotWritten(WriteFault::BadField(bad));
     }
     bits::join(groups, place);
     SheetWritten::Done

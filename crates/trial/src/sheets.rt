@@ -139,9 +139,9 @@ fn store(f: [u32; COUNT], place: &mut [u32]) {
     }
 }
 
-// 3, and a hundred times the bad field's number.
-fn bad_field(k: u32) -> u32 {
-    if k < 1000 { 3 + 100 * k } else { 3 }
+// A refusal's number, and a hundred times the field that it names.
+fn told(number: u8, field: u8) -> u32 {
+    number as u32 + 100 * field as u32
 }
 
 #[no_mangle]
@@ -152,9 +152,12 @@ pub extern "C" fn trial_read(bytes: &[u8], place: &mut [u32]) -> u32 {
             store(figures_of(s), place);
             0
         }
-        SheetRead::WrongLength => 1,
-        SheetRead::SpareBitSet => 2,
-        SheetRead::BadField(k) => bad_field(k),
+        SheetRead::NoSheet(fault) => {
+            told(
+                sheet::read_fault_number(fault),
+                sheet::read_fault_field(fault),
+            )
+        }
     }
 }
 
@@ -163,7 +166,11 @@ pub extern "C" fn trial_write(figures: &[u32], place: &mut [u8]) -> u32 {
     let answer = sheet::write(sheet_of(array_of(figures)), place);
     match answer {
         SheetWritten::Done => 0,
-        SheetWritten::PlaceTooSmall => 12,
-        SheetWritten::BadField(k) => bad_field(k),
+        SheetWritten::NotWritten(fault) => {
+            told(
+                sheet::write_fault_number(fault),
+                sheet::write_fault_field(fault),
+            )
+        }
     }
 }
