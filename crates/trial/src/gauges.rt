@@ -6,9 +6,7 @@ fn answer_of(added: Added) -> u32 {
     match added {
         Added::Counted => 1,
         Added::Missing => 2,
-        Added::WrongTable => 4,
-        Added::OutsideTable => 10,
-        Added::SlotFull => 11,
+        Added::NotAdded(fault) => gauge::add_fault_number(fault) as u32,
     }
 }
 
@@ -35,8 +33,6 @@ pub extern "C" fn trial_level(table: &[u32], place: &mut [u8]) -> u32 {
     let answer = gauge::design_level(table);
     match answer {
         LevelRead::Found(level) => level.0 as u32,
-        LevelRead::WrongTable => 10004,
-        LevelRead::TooFewReadings => 10005,
-        LevelRead::RangeTooWide => 10006,
+        LevelRead::NoLevel(fault) => 10000 + gauge::level_fault_number(fault) as u32,
     }
 }
