@@ -1,14 +1,5 @@
-pub mod Rows
-pub mod Ways
-pub mod Zeros
-pub mod RoomRows
-pub mod Readings
-pub mod Checked
-pub mod OnlyFigures
-pub mod Exactly
-pub mod Compared
-pub mod HarderRows
-pub mod HarderWidths
-pub mod Harder
-pub mod Starred
+mod rows
+mod harder
+mod answers
+mod Starred
 pub mod Promises

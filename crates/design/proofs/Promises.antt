@@ -1,15 +1,18 @@
 -- What a design promises, demand by demand, then the numbers that turn a sheet away (sections 0, 8, 9 and 11); each is cited from its proof.
 -- `designOf` is what `design` ensures, `designAt` what `design_at` does and `numbersOf` what `numbers` does; each of `bytes` is a byte, as `Bytes`
--- says. Assumes nothing.
+-- says.
 use mathlib.Core.Path.{_≡_, refl}
 use mathlib.Core.List.{List, [], _∷_, map}
 use mathlib.Core.Logic.{_↔_, _≢_, _⊎_}
 use Prim.Native.Nat.{ℕ, _≤_}
 use native.Mathlib.Omega.{arith}
+use lib.Dec.{T}
 use lib.IntN.{ℤ, pos}
 use lib.ListN.{length, take, replicate}
-use Rattle.laws.specs.Rows.{NoneBefore, None, Listed, Exactly}
+use Rattle.laws.specs.Each.{Each, _&_}
 use Rattle.laws.specs.Extremes.{Least}
+use Rattle.laws.specs.Rows.{NoneBefore, None, Listed, Exactly}
+use Rattle.laws.proofs.Rows.{absent}
 use Rattle.laws.proofs.Unique.{one-answer}
 use Rattle.datum.specs.Datum.{levelOf}
 use Rattle.datum.specs.declared.Level.{Level}
@@ -18,29 +21,33 @@ use Rattle.sheet.specs.Packing.{size, groupsOf, Bytes}
 use Rattle.sheet.specs.Sheets.{readOf, placeOf, Valid}
 use Rattle.sheet.specs.declared.Sheet.{Sheet}
 use Rattle.sheet.specs.declared.SheetRead.the-variants.{Good}
+use Rattle.sheet.specs.declared.ReadFault.the-variants.{BadField}
 use Rattle.sheet.proofs.Promises.{written-and-read, each-one-writing}
 use Rattle.gauge.specs.Adding.{addition, additionNumber, tableAfter}
 use Rattle.gauge.specs.Designing.{designLevel}
+use Rattle.lanes.specs.Lanes.{laneCount}
 use Rattle.gauge.specs.declared.LevelRead.{LevelRead}
-use Rattle.gauge.specs.declared.LevelRead.the-variants.{Found as LevelFound, WrongTable as TableWrong}
+use Rattle.gauge.specs.declared.LevelRead.the-variants.{Found, NoLevel}
+use Rattle.gauge.specs.declared.LevelFault.the-variants.{WrongTable}
 use Rattle.gauge.proofs.Promises.{refused-changes-nothing}
 use Rattle.depth.specs.Depth.{Meets}
-use Rattle.depth.specs.declared.Fault.{Fault}
+use Rattle.depth.specs.declared.DepthFault.{DepthFault}
 use Rattle.design.specs.Design.{levelFor, designAt, designOf}
-use Rattle.design.specs.Numbers.{reasonNumber, reasonField, laneNumber, numbersOf}
-use Rattle.design.specs.Refusals.{sheetIn, levelIn, rows, codeOf, fieldOf}
+use Rattle.design.specs.Numbers.{reasonNumber, reasonField, codeOf, fieldOf, numberCount, numbersOf}
+use Rattle.design.specs.Refusals.{sheetIn, levelIn, rows}
 use Rattle.design.specs.Answers.{stretchOf, FiguresAre}
+use Rattle.design.specs.Harder.{hardenings, NeverEasier}
+use Rattle.design.specs.Starred.{writing, starredSheets, starredNumbers}
 use Rattle.design.specs.declared.Figures.{Figures}
 use Rattle.design.specs.declared.Reason.{Reason}
-use Rattle.design.specs.declared.Reason.the-variants.{BadField, NoDepth}
+use Rattle.design.specs.declared.Reason.the-variants.{NoSheet, NoDepth}
 use Rattle.design.specs.declared.Answer.{Answer}
 use Rattle.design.specs.declared.Answer.the-variants.{Answered, Refused}
-use Rattle.design.proofs.Zeros as the-numbers
-use Rattle.design.proofs.Readings.{sheet-read, level-read}
-use Rattle.design.proofs.OnlyFigures.{figures-only}
-use Rattle.design.proofs.Exactly.{design-exactly, field-exactly, figures-exactly, no-depth-only as no-depth-said}
-use Rattle.design.specs.Harder.{hardenings, NeverEasier, Each, none, _&_}
-use Rattle.design.proofs.Harder.{deepens, broadens}
+use Rattle.design.proofs.answers.Numbers as the-numbers
+use Rattle.design.proofs.rows.Readings.{sheet-read, level-read}
+use Rattle.design.proofs.answers.Figures.{figures-only}
+use Rattle.design.proofs.rows.Exactly.{design-exactly, field-exactly, figures-exactly, no-depth-only as no-depth-said}
+use Rattle.design.proofs.harder.Never.{deepens, broadens}
 use Rattle.design.proofs.Starred as the-starred
 
 -- Demand 1
@@ -53,14 +60,18 @@ module _ (bytes table : List ℕ) where
   pub code-is-known : (codeOf (designOf bytes table) ≡ 0) ⊎ Listed (rows bytes table) (codeOf (designOf bytes table))
   code-is-known = the-numbers.code-listed bytes table (designOf bytes table)
 
-  -- 9 is retired.
+  -- A number that is no row's is never given: 9 is retired.
+  pub unlisted-never : (number : ℕ) → 1 ≤ number → T (absent number (rows bytes table)) → codeOf (designOf bytes table) ≢ number
+  unlisted-never = the-numbers.code-never bytes table (designOf bytes table)
+
   pub nine-never : codeOf (designOf bytes table) ≢ 9
   unfolding rows
-  nine-never = the-numbers.code-never bytes table (designOf bytes table) 9 (omega arith) tt
+  nine-never = unlisted-never 9 (omega arith) tt
 
 -- A refused sheet yields its number, the place of a bad field, and zeros.
 pub refused-figures-zero : (r : Reason) → numbersOf (Refused r) ≡ pos (reasonNumber r) ∷ pos (reasonField r) ∷ replicate 11 (pos 0)
-refused-figures-zero = the-numbers.refused-zeros
+unfolding numbersOf
+refused-figures-zero r = refl
 
 -- A refused reading leaves the level table untouched.
 pub refused-reading : (table : List ℕ) (reading : ℤ) → additionNumber (addition table reading) ≢ 0 → tableAfter table reading ≡ table
@@ -95,7 +106,7 @@ module _ (bytes table : List ℕ) (small : Bytes bytes) where
   least-cut f e = answered-exactly bytes table small f .0 e .1 .cut
 
   -- "No depth", for any of the three reasons, is said only when none up to 30 m does.
-  pub no-depth-only : (fault : Fault) → designOf bytes table ≡ Refused (NoDepth fault) → (d : ℕ) → ¬ Meets (stretchOf (sheetIn bytes) (levelIn (sheetIn bytes) table)) d
+  pub no-depth-only : (fault : DepthFault) → designOf bytes table ≡ Refused (NoDepth fault) → (d : ℕ) → ¬ Meets (stretchOf (sheetIn bytes) (levelIn (sheetIn bytes) table)) d
   no-depth-only = no-depth-said bytes table small
 
 -- Over one table, of two sheets with every field in range that differ in one of these figures and come to the same lanes, the one with the
@@ -104,7 +115,7 @@ module _ (bytes table : List ℕ) (small : Bytes bytes) where
 pub never-easier : Each NeverEasier hardenings
 never-easier =
     deepens 2 refl & deepens 3 refl & deepens 5 refl & deepens 8 refl & deepens 9 refl & deepens 7 refl
-    & broadens 4 refl refl & broadens 16 refl refl & broadens 17 refl refl & broadens 18 refl refl & broadens 19 refl refl & none
+    & broadens 4 refl refl & broadens 16 refl refl & broadens 17 refl refl & broadens 18 refl refl & broadens 19 refl refl & tt
 
 -- The numbers that turn a sheet away
 module _ (bytes table : List ℕ) (small : Bytes bytes) where
@@ -113,12 +124,12 @@ module _ (bytes table : List ℕ) (small : Bytes bytes) where
   number-given = design-exactly bytes table small
 
   -- 3: the first bad field's number is given.
-  pub first-bad-field : (k : ℕ) → (designOf bytes table ≡ Refused (BadField k)) ↔ (Least (Bad (groupsOf bytes)) k × NoneBefore (rows bytes table) 3)
+  pub first-bad-field : (k : ℕ) → (designOf bytes table ≡ Refused (NoSheet (BadField k))) ↔ (Least (Bad (groupsOf bytes)) k × NoneBefore (rows bytes table) 3)
   first-bad-field = field-exactly bytes table small
 
 -- Past 4, 5 and 6 the sheet has its level: its own, or the one read off the table.
 pub level-is-had : (bytes table : List ℕ) → NoneBefore (rows bytes table) 7
-    → levelFor (sheetIn bytes .level) (designLevel table) ≡ LevelFound (levelIn (sheetIn bytes) table)
+    → levelFor (sheetIn bytes .level) (designLevel table) ≡ Found (levelIn (sheetIn bytes) table)
 level-is-had = level-read
 
 -- A design over a table is the design at the level that the table gives.
@@ -127,14 +138,17 @@ unfolding designOf
 table-gives-level bytes table = refl
 
 -- A design at refusal 4 is the design over a table of no slots.
-pub no-table : (bytes : List ℕ) → designAt bytes TableWrong ≡ designOf bytes []
+pub no-table : (bytes : List ℕ) → designAt bytes (NoLevel WrongTable) ≡ designOf bytes []
 unfolding designOf designLevel
 no-table bytes = refl
 
--- The thirteen numbers
--- The answer is 0 or the number, the field, and the figures.
-pub thirteen-numbers : (a : Answer) → length (numbersOf a) ≡ 13
-thirteen-numbers = the-numbers.thirteen
+-- The numbers of an answer
+-- There are thirteen: 0 or the number, the field, and the figures.
+pub all-numbers : (a : Answer) → length (numbersOf a) ≡ numberCount
+all-numbers = the-numbers.counted
+
+pub thirteen : numberCount ≡ 13
+thirteen = refl
 
 pub code-and-field-first : (a : Answer) → take 2 (numbersOf a) ≡ pos (codeOf a) ∷ pos (fieldOf a) ∷ []
 code-and-field-first = the-numbers.code-and-field
@@ -150,9 +164,10 @@ one-reason = the-numbers.one-reason
 -- An answered design has code 0, field 0, and its level, lanes, s, cut, datum depth, width, widening, columns tried and three classes.
 pub answered-figures : (f : Figures)
     → numbersOf (Answered f)
-    ≡ pos 0 ∷ pos 0 ∷ levelOf (f .level) ∷ pos (laneNumber (f .lanes)) ∷ pos (f .sailing .0) ∷ pos (f .cut .0) ∷ f .datum .0 ∷ f .width
-    ∷ f .widening ∷ pos (f .columns) ∷ pos (f .ship) ∷ pos (f .wide) ∷ pos (f .deep) ∷ []
-answered-figures = the-numbers.answered-numbers
+    ≡ pos 0 ∷ pos 0 ∷ levelOf (f .level) ∷ pos (laneCount (f .lanes)) ∷ pos (f .sailing .0) ∷ pos (f .cut .0) ∷ f .datum .0 ∷ f .width
+    ∷ f .widening ∷ pos (f .columns) ∷ pos (f .classes .ship) ∷ pos (f .classes .width) ∷ pos (f .classes .depth) ∷ []
+unfolding numbersOf
+answered-figures f = refl
 
 -- Each call has one result.
 pub design-unique : (bytes table : List ℕ) (r s : Answer) → r ≡ designOf bytes table → s ≡ designOf bytes table → r ≡ s
@@ -167,9 +182,9 @@ code-unique design = one-answer
 pub numbers-unique : (design : Answer) (r s : List ℤ) → r ≡ numbersOf design → s ≡ numbersOf design → r ≡ s
 numbers-unique design = one-answer
 
--- The starred cases, from their bytes: the sheets that they are read as, and their thirteen numbers over any table, as their levels are given.
-pub starred-sheets : map readOf the-starred.cases ≡ the-starred.sheets
+-- The starred cases, from the bytes of their sheets: the sheets that these are read as, and their numbers over any table, as their levels are given.
+pub starred-sheets : map (λ (s : Sheet). readOf (writing s)) starredSheets ≡ map Good starredSheets
 starred-sheets = the-starred.starred-read
 
-pub starred : (table : List ℕ) → map (λ (bytes : List ℕ). numbersOf (designOf bytes table)) the-starred.cases ≡ the-starred.lines
+pub starred : (table : List ℕ) → map (λ (s : Sheet). numbersOf (designOf (writing s) table)) starredSheets ≡ starredNumbers
 starred = the-starred.starred

@@ -10,16 +10,18 @@ use Rattle.datum.specs.declared.Level.{Level}
 use Rattle.sheet.specs.Fields.{Bad}
 use Rattle.sheet.specs.Packing.{groupsOf}
 use Rattle.sheet.specs.declared.Sheet.{Sheet}
+use Rattle.sheet.specs.declared.ReadFault.the-variants.{WrongLength, SpareBitSet, BadField}
 use Rattle.depth.specs.Depth.{sailing, ownColumn, Meets}
 use Rattle.depth.specs.Worksheet.{tries}
 use Rattle.depth.specs.declared.Stretch.{Stretch as DepthStretch}
+use Rattle.width.specs.Bands.{entriesOf}
 use Rattle.width.specs.Bends.{bendOf, wideningFigure}
-use Rattle.width.specs.Width.{widthOf, widthFigure}
+use Rattle.width.specs.Width.{widthFigure}
 use Rattle.class.specs.Classes.{shipClass, widthClass, depthClass}
 use Rattle.design.specs.Design.{depthStretch, widthStretch, lanesFor}
 use Rattle.design.specs.declared.Figures.{Figures}
 use Rattle.design.specs.declared.Reason.{Reason}
-use Rattle.design.specs.declared.Reason.the-variants.{WrongLength, SpareBitSet, BadField, WrongTable, TooFewReadings, RangeTooWide, BendTooTight, NoWidthEntry, NoDepth}
+use Rattle.design.specs.declared.Reason.the-variants.{NoSheet, NoLevel, NoWidth, NoDepth}
 
 -- the stretch whose depth a sheet asks for at a level, in the lanes of the lane rule
 abbrev pub stretchOf : Sheet → Level → DepthStretch
@@ -27,7 +29,7 @@ stretchOf s level = depthStretch s level (lanesFor s)
 
 -- the width of a sheet at its sailing depth, and its widening
 abbrev pub widthIn : Sheet → Figures → ℕ
-widthIn s f = widthFigure (widthOf (widthStretch s (lanesFor s) (f .sailing)))
+widthIn s f = widthFigure (widthStretch s (lanesFor s) (f .sailing)) (entriesOf (s .water) (s .speed) (s .cross) (s .wave))
 
 abbrev pub wideningIn : Sheet → ℕ
 wideningIn s = wideningFigure (bendOf (s .turn) (s .radius) (s .length) (s .speed) (lanesFor s))
@@ -46,18 +48,15 @@ pub record FiguresAre (s : Sheet) (design-level : Level) (f : Figures) : Type 0 
   -- the width without widening, and the widening apart
   pub width : f .width ≡ pos (widthIn s f)
   pub widening : f .widening ≡ pos (wideningIn s)
-  pub ship-class : f .ship ≡ shipClass (s .deadweight)
-  pub width-class : f .wide ≡ widthClass (lanesFor s) (widthIn s f)
-  pub depth-class : f .deep ≡ depthClass (f .sailing)
+  pub ship-class : f .classes .ship ≡ shipClass (s .deadweight)
+  pub width-class : f .classes .width ≡ widthClass (lanesFor s) (widthIn s f)
+  pub depth-class : f .classes .depth ≡ depthClass (f .sailing)
 
 -- a bad field that is named is the first; no other reason names one
 abbrev pub NamesFirst : List ℕ → Reason → Type 0
-NamesFirst bytes WrongLength = Unit {0}
-NamesFirst bytes SpareBitSet = Unit {0}
-NamesFirst bytes (BadField k) = Least (Bad (groupsOf bytes)) k
-NamesFirst bytes WrongTable = Unit {0}
-NamesFirst bytes TooFewReadings = Unit {0}
-NamesFirst bytes RangeTooWide = Unit {0}
-NamesFirst bytes BendTooTight = Unit {0}
-NamesFirst bytes NoWidthEntry = Unit {0}
+NamesFirst bytes (NoSheet WrongLength) = Unit {0}
+NamesFirst bytes (NoSheet SpareBitSet) = Unit {0}
+NamesFirst bytes (NoSheet (BadField k)) = Least (Bad (groupsOf bytes)) k
+NamesFirst bytes (NoLevel fault) = Unit {0}
+NamesFirst bytes (NoWidth fault) = Unit {0}
 NamesFirst bytes (NoDepth fault) = Unit {0}

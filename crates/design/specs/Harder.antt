@@ -3,7 +3,8 @@ use mathlib.Core.Path.{_≡_}
 use mathlib.Core.Logic.{_≢_}
 use mathlib.Core.List.{List, [], _∷_}
 use Prim.Native.Nat.{ℕ, _-_, _≤_, _<_}
-use lib.IntN.{ℤ, pos, negsuc}
+use lib.IntN.{ℤ, pos}
+use lib.Signed.{_≤ℤ_}
 use Rattle.sheet.specs.Fields.{count, nth}
 use Rattle.sheet.specs.Packing.{groupsOf, Bytes}
 use Rattle.sheet.specs.Sheets.{readOf}
@@ -60,25 +61,12 @@ pub record Harder (k : ℕ) (easy hard : List ℕ) : Type 0 where
   pub else-equal : (j : ℕ) → 1 ≤ j → j ≤ count → j ≢ k → figureIn easy j ≡ figureIn hard j
   pub same-lanes : lanesFor (sheetIn easy) ≡ lanesFor (sheetIn hard)
 
--- signed numbers in their order
-abbrev pub AtMost : ℤ → ℤ → Type 0
-AtMost (pos a) (pos b) = a ≤ b
-AtMost (pos a) (negsuc b) = ⊥
-AtMost (negsuc a) (pos b) = Unit {0}
-AtMost (negsuc a) (negsuc b) = b ≤ a
-
 -- the second design is no easier: refused, or answered where the first is, with a figure that is no less
 pub data NoEasier (figure : Figures → ℤ) : Answer → Answer → Type 0 where
-  no-less : {f g : Figures} → AtMost (figure f) (figure g) → NoEasier figure (Answered f) (Answered g)
+  no-less : {f g : Figures} → (figure f ≤ℤ figure g) → NoEasier figure (Answered f) (Answered g)
   refused : {a : Answer} {r : Reason} → NoEasier figure a (Refused r)
 
 -- a greater figure in the field never makes a design easier, over any one table
 abbrev pub NeverEasier : Hardening → Type 0
 NeverEasier h = (easy hard table : List ℕ) → Bytes easy → Bytes hard → Harder (h .field) easy hard
     → NoEasier (h .kept) (designOf easy table) (designOf hard table)
-
--- what holds of each of a list
-infixr 4 _&_
-pub data Each (P : Hardening → Type 0) : List Hardening → Type 0 where
-  none : Each P []
-  _&_ : {h : Hardening} {hs : List Hardening} → P h → Each P hs → Each P (h ∷ hs)

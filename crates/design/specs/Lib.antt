@@ -4,3 +4,4 @@ pub mod Numbers
 pub mod Refusals
 pub mod Answers
 pub mod Harder
+pub mod Starred

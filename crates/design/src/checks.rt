@@ -66,7 +66,12 @@ fn past_entries(sheet: Sheet, level: Level, lanes: Lanes, widening: u32, entries
     let depth = depth::work_depth(working::depth_stretch(sheet, level, lanes));
     match depth {
         Depth::Cut(found) => Answer::Answered(working::figures_of(
-            sheet, level, lanes, widening, entries, found,
+            sheet,
+            level,
+            lanes,
+            widening,
+            entries,
+            found,
         )),
         Depth::NoCut(fault) => Answer::Refused(Reason::NoDepth(fault)),
     }

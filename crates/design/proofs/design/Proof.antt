@@ -1,5 +1,4 @@
 -- `design::design` meets its contract: the level is that of the table.
--- Assumes nothing.
 use mathlib.Core.Path.{ap, _∙_}
 use Rattle.design.specs.Design.{designAt, designOf}
 use borrow.Author.Needs.{needs}

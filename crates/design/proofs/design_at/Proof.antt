@@ -1,5 +1,4 @@
 -- `design::design_at` meets its contract: by what the bytes are read as.
--- Assumes nothing.
 use mathlib.Core.Path.{ap, sym, _∙_}
 use native.Mathlib.Omega.{arith}
 use Rattle.sheet.specs.declared.SheetRead.{SheetRead}

@@ -1,5 +1,4 @@
 -- `design::numbers` meets its contract: case by case.
--- Assumes nothing.
 use Rattle.design.specs.Numbers.{numbersOf}
 use borrow.Author.Needs.{needs}
 use Rattle.design.proofs.numbers.Statement.{statement}

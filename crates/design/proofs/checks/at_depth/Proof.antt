@@ -1,5 +1,4 @@
 -- `design::checks::at_depth` meets its contract: the width has an entry or has none.
--- Assumes nothing.
 use mathlib.Core.Path.{ap, sym, _∙_}
 use native.Mathlib.Omega.{arith}
 use mir.Facts.{toZ-ofZ}
@@ -7,7 +6,7 @@ use Rattle.sheet.proofs.Ranges.{ranges}
 use Rattle.width.specs.Width.{widthOf}
 use Rattle.design.specs.Design.{widthStretch, figuresOf}
 use Rattle.width.proofs.Sizes.{width-small}
-use Rattle.design.proofs.Ways.{with-width, without-width}
+use Rattle.design.proofs.answers.Ways.{with-width, without-width}
 use borrow.Author.Needs.{needs}
 use Rattle.design.proofs.checks.at_depth.Statement.{statement}
 use Rattle.design.proofs.checks.at_depth.Tie as tie

@@ -1,12 +1,11 @@
 -- `design::checks::at_level` meets its contract: the bend is too tight, or widened by so much.
--- Assumes nothing.
 use mathlib.Core.Path.{ap, sym, _∙_}
 use native.Mathlib.Omega.{arith}
 use Rattle.sheet.proofs.Ranges.{ranges}
 use mir.Facts.{toZ-ofZ}
 use Rattle.design.specs.Design.{pastBend}
 use Rattle.width.proofs.Sizes.{widening-small}
-use Rattle.design.proofs.Ways.{with-bend, too-tight}
+use Rattle.design.proofs.answers.Ways.{with-bend, too-tight}
 use borrow.Author.Needs.{needs}
 use Rattle.design.proofs.checks.at_level.Statement.{statement}
 use Rattle.design.proofs.checks.at_level.Tie as tie

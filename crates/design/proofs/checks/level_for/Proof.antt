@@ -1,5 +1,4 @@
 -- `design::checks::level_for` meets its contract: by the source.
--- Assumes nothing.
 use borrow.Author.Needs.{needs}
 use Rattle.design.proofs.checks.level_for.Statement.{statement}
 use Rattle.design.proofs.checks.level_for.Tie as tie

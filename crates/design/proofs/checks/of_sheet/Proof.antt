@@ -1,5 +1,4 @@
 -- `design::checks::of_sheet` meets its contract: by the level that the sheet is worked at.
--- Assumes nothing.
 use mathlib.Core.Path.{ap, sym, _∙_}
 use Rattle.design.specs.Design.{byLevel, ofSheet}
 use borrow.Author.Needs.{needs}

@@ -1,11 +1,10 @@
 -- `design::checks::past_bend` meets its contract: the entries, then the depth.
--- Assumes nothing.
 use mathlib.Core.Path.{ap, _∙_}
 use borrow.Author.Tests.{not-true, not-false}
 use lib.IntN.{ℤ}
 use mir.Facts.{toZ-ofZ}
 use Rattle.design.specs.Design.{atDepth}
-use Rattle.design.proofs.Ways.{no-entry, with-cut, without-cut}
+use Rattle.design.proofs.answers.Ways.{no-entry, with-cut, without-cut}
 use borrow.Author.Needs.{needs}
 use Rattle.design.proofs.checks.past_bend.Statement.{statement}
 use Rattle.design.proofs.checks.past_bend.Tie as tie

@@ -1,9 +1,8 @@
 -- `design::numbering::answered` meets its contract: each number is widened from its own figure.
--- Assumes nothing.
 use mathlib.Core.Path.{refl, ap, _∙_}
 use mathlib.Core.List.{List, _∷_}
 use lib.IntN.{ℤ, pos}
-use Rattle.design.proofs.Rows.{held}
+use Rattle.design.proofs.answers.Held.{held}
 use borrow.Author.Needs.{needs}
 use Rattle.design.proofs.numbering.answered.Statement.{statement}
 use Rattle.design.proofs.numbering.answered.Tie as tie

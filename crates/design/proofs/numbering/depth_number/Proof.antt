@@ -1,5 +1,4 @@
 -- `design::numbering::depth_number` meets its contract: so few bits have no sign.
--- Assumes nothing.
 use native.Mathlib.Omega.{arith}
 use mir.Syntax.{w32}
 use mir.Facts.{toZ-pos}

@@ -1,5 +1,4 @@
 -- `design::numbering::level_number` meets its contract: the difference fits, so the machine's is that of ℤ.
--- Assumes nothing.
 use native.Mathlib.Omega.{arith}
 use mir.Syntax.{w32}
 use Rattle.datum.proofs.Signs.{level-fits, level-back}

@@ -1,8 +1,7 @@
 -- `design::numbering::refused` meets its contract: each number is widened.
--- Assumes nothing.
 use mathlib.Core.Path.{refl, ap, _∙_}
 use lib.IntN.{pos}
-use Rattle.design.proofs.Rows.{held}
+use Rattle.design.proofs.answers.Held.{held}
 use borrow.Author.Needs.{needs}
 use Rattle.design.proofs.numbering.refused.Statement.{statement}
 use Rattle.design.proofs.numbering.refused.Tie as tie

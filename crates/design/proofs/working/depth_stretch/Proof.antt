@@ -1,5 +1,4 @@
 -- `design::working::depth_stretch` meets its contract: the natural depth and the interval are those of the definition.
--- Assumes nothing.
 use borrow.Author.Needs.{needs}
 use Rattle.design.proofs.working.depth_stretch.Statement.{statement}
 use Rattle.design.proofs.working.depth_stretch.Tie as tie

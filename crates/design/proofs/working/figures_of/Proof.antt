@@ -1,5 +1,4 @@
 -- `design::working::figures_of` meets its contract: each figure is its room's.
--- Assumes nothing.
 use mathlib.Core.Path.{_≡_}
 use mir.Syntax.{w32}
 use mir.Val.{toZ, ofZ}

@@ -1,5 +1,4 @@
 -- `design::working::signed` meets its contract: under 2 ^ 31 there is no sign.
--- Assumes nothing.
 use mir.Syntax.{w32}
 use mir.Facts.{toZ-pos}
 use borrow.Author.Needs.{needs}

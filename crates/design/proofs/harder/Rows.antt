@@ -1,6 +1,5 @@
 -- Each row that turns the easier of two sheets away turns the harder away, or leaves it without a depth, and what meets the harder one's depth meets the easier one's; so where
 -- the harder is answered both are, and only their figures are left to compare.
--- Assumes nothing.
 use mathlib.Core.Path.{_≡_, refl, sym, ap, ap₂, subst, _∙_}
 use mathlib.Core.List.{List}
 use mathlib.Core.Logic.{_⊎_, inl, inr}
@@ -8,7 +7,10 @@ use Prim.Native.Nat.{ℕ, _*_, _≤_, _<_}
 use native.Mathlib.Nat.{mul-le-mul}
 use native.Mathlib.Omega.{arith}
 use lib.IntN.{ℤ, pos}
-use Rattle.laws.proofs.Rows.{Carried, _&_, carried, none-held}
+use lib.Dec.{le→leb}
+use lib.Signed.{_≤ℤ_}
+use Rattle.laws.specs.Each.{_&_}
+use Rattle.laws.proofs.Rows.{Carried, carried, none-held}
 use Rattle.laws.proofs.Extremes.{least-grows}
 use Rattle.datum.specs.Datum.{belowChart, naturalDepth}
 use Rattle.sheet.specs.Fields.{fields, fieldAt, least}
@@ -26,19 +28,19 @@ use Rattle.depth.specs.Squat.{squatReading}
 use Rattle.depth.specs.Depth.{Meets}
 use Rattle.depth.specs.Harder.{Harder as HarderDepth}
 use Rattle.depth.specs.Reasons.{FirstUnusable}
-use Rattle.depth.specs.declared.Fault.{Fault}
-use Rattle.depth.specs.declared.Fault.the-variants.{NoSquatEntry, SiltOver, CutOver}
+use Rattle.depth.specs.declared.DepthFault.{DepthFault}
+use Rattle.depth.specs.declared.DepthFault.the-variants.{NoSquatEntry, SiltOver, CutOver}
 use Rattle.depth.proofs.Promises.{meets-the-easier, unusable-none}
 use Rattle.width.specs.Bends.{leastLengths}
 use Rattle.design.specs.Design.{lanesFor}
-use Rattle.design.specs.Refusals.{sheetIn, levelIn, levelFrom, rows, TightBend, EntryMissing, OffRecord}
+use Rattle.design.specs.Refusals.{sheetIn, levelIn, levelFrom, rows, BendTight, EntryMissing, OffRecord}
 use Rattle.design.specs.Answers.{stretchOf, FiguresAre}
-use Rattle.design.specs.Harder.{cut, AtMost, NoEasier, no-less, refused as harder-refused}
+use Rattle.design.specs.Harder.{cut, NoEasier, no-less, refused as harder-refused}
 use Rattle.design.specs.declared.Figures.{Figures}
 use Rattle.design.specs.declared.Answer.{Answer}
 use Rattle.design.specs.declared.Answer.the-variants.{Answered, Refused}
-use Rattle.design.proofs.Exactly.{Ended}
-use Rattle.design.proofs.Compared.{hardens, Compared}
+use Rattle.design.proofs.rows.Exactly.{Ended}
+use Rattle.design.proofs.harder.Compared.{hardens, Compared}
 
 -- the rows, and what the two depths are worked from
 module _ (easy hard table : List ℕ) (read : readOf easy ≡ Good (sheetIn easy)) (lanes : lanesFor (sheetIn easy) ≡ lanesFor (sheetIn hard))
@@ -57,7 +59,7 @@ module _ (easy hard table : List ℕ) (read : readOf easy ≡ Good (sheetIn easy
   off-record-too : (Fault : Type 0) → OffRecord (s .level) Fault → OffRecord (s' .level) Fault
   off-record-too Fault = subst (λ (source : LevelSource). OffRecord source Fault) level-same
 
-  tight-too : TightBend s → TightBend s'
+  tight-too : BendTight s → BendTight s'
   unfolding sheetOf
   tight-too row =
       let turn = c .same 25 refl in
@@ -106,7 +108,7 @@ module _ (easy hard table : List ℕ) (read : readOf easy ≡ Good (sheetIn easy
   meets-too = meets-the-easier _ _ depth-harder speed-read
 
   -- no depth, for whichever reason, stays no depth
-  no-depth-too : (fault : Fault) → FirstUnusable (stretchOf s (levelIn s table)) fault → (d : ℕ) → ¬ Meets (stretchOf s' (levelIn s' table)) d
+  no-depth-too : (fault : DepthFault) → FirstUnusable (stretchOf s (levelIn s table)) fault → (d : ℕ) → ¬ Meets (stretchOf s' (levelIn s' table)) d
   no-depth-too fault u d m = unusable-none _ fault u d (meets-too d m)
 
   module _ (small : Bytes easy) where
@@ -130,7 +132,7 @@ module _ (easy hard table : List ℕ) (read : readOf easy ≡ Good (sheetIn easy
 
     -- so only the figures are left to compare
     pub no-easier : (figure : Figures → ℤ)
-        → ((f g : Figures) → ¬ EntryMissing s' → FiguresAre s (levelIn s table) f → FiguresAre s' (levelIn s' table) g → AtMost (figure f) (figure g))
+        → ((f g : Figures) → ¬ EntryMissing s' → FiguresAre s (levelIn s table) f → FiguresAre s' (levelIn s' table) g → (figure f ≤ℤ figure g))
         → (a b : Answer) → Ended easy table a → Ended hard table b → NoEasier figure a b
     unfolding rows
     no-easier figure at-most a (Refused r) t u = harder-refused
@@ -142,5 +144,6 @@ module _ (easy hard table : List ℕ) (read : readOf easy ≡ Good (sheetIn easy
     no-easier figure at-most (Refused r) (Answered g) (inr t) (inl u) =
         absurd (t .0 (carried (rows easy table) (rows hard table) (rows-carried (g .cut .0) (u .1 .cut .holds)) (u .0)))
 
-  pub cut-rises : (f g : Figures) → ¬ EntryMissing s' → FiguresAre s (levelIn s table) f → FiguresAre s' (levelIn s' table) g → AtMost (cut f) (cut g)
-  cut-rises f g there are are' = least-grows _ _ (f .cut .0) (g .cut .0) meets-too (are .cut) (are' .cut)
+  pub cut-rises : (f g : Figures) → ¬ EntryMissing s' → FiguresAre s (levelIn s table) f → FiguresAre s' (levelIn s' table) g → (cut f ≤ℤ cut g)
+  cut-rises f g there are are' =
+      record { le = le→leb (f .cut .0) (g .cut .0) (least-grows _ _ (f .cut .0) (g .cut .0) meets-too (are .cut) (are' .cut)) }

@@ -1,5 +1,4 @@
 -- A row of numbers that the machine holds is the row of the numbers.
--- Assumes nothing.
 use mathlib.Core.Path.{_≡_, ap₂, _∙_}
 use mathlib.Core.List.{List, _∷_}
 use Prim.Native.Nat.{_<_, _^_}

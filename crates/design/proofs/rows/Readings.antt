@@ -1,5 +1,4 @@
 -- Past the rows 1 to 3 the bytes are read as their sheet, and past 4 to 6 it has its level: every other reading is one of those rows.
--- Assumes nothing.
 use mathlib.Core.Path.{_≡_}
 use mathlib.Core.List.{List}
 use Prim.Native.Nat.{ℕ}
@@ -16,7 +15,7 @@ use Rattle.gauge.specs.declared.LevelRead.{LevelRead}
 use Rattle.gauge.specs.declared.LevelRead.the-variants.{Found}
 use Rattle.design.specs.Design.{levelFor}
 use Rattle.design.specs.Refusals.{sheetIn, levelIn, rows}
-use Rattle.design.proofs.RoomRows.{levelsFrom, offRecord, level-told}
+use Rattle.design.proofs.rows.Rooms.{levelsFrom, offRecord, level-told}
 
 module _ (bytes table : List ℕ) where
   pub sheet-read : Bytes bytes → NoneBefore (rows bytes table) 4 → readOf bytes ≡ Good (sheetIn bytes)

@@ -1,5 +1,5 @@
--- A number is given exactly when its row holds and none checked before it does, by the law of `laws`; an answer exactly when no row holds, with
--- the only figures that are so. Assumes nothing.
+-- A number is given exactly when its row holds and none checked before it does, by the law of ordered rows; an answer exactly when no row holds,
+-- with the only figures that are so.
 use mathlib.Core.Path.{_≡_, refl, ap, subst, _∙_}
 use mathlib.Core.List.{List}
 use mathlib.Core.Logic.{_↔_, _⊎_}
@@ -11,32 +11,33 @@ use Rattle.laws.proofs.Rows.{exactly, ended, answer-exactly, refusal-exactly}
 use Rattle.laws.proofs.Extremes.{least-only}
 use Rattle.sheet.specs.Fields.{Bad}
 use Rattle.sheet.specs.Packing.{groupsOf, Bytes}
+use Rattle.sheet.specs.declared.ReadFault.the-variants.{BadField}
 use Rattle.depth.specs.Depth.{Meets}
-use Rattle.depth.specs.declared.Fault.{Fault}
-use Rattle.depth.specs.declared.Fault.the-variants.{NoSquatEntry, SiltOver, CutOver}
+use Rattle.depth.specs.declared.DepthFault.{DepthFault}
+use Rattle.depth.specs.declared.DepthFault.the-variants.{NoSquatEntry, SiltOver, CutOver}
 use Rattle.depth.proofs.Promises.{unusable-none}
 use Rattle.design.specs.Design.{designOf}
-use Rattle.design.specs.Numbers.{reasonField}
-use Rattle.design.specs.Refusals.{sheetIn, levelIn, rows, codeOf}
+use Rattle.design.specs.Numbers.{reasonField, codeOf}
+use Rattle.design.specs.Refusals.{sheetIn, levelIn, rows}
 use Rattle.design.specs.Answers.{stretchOf, FiguresAre, NamesFirst}
 use Rattle.design.specs.declared.Figures.{Figures}
-use Rattle.design.specs.declared.Reason.the-variants.{BadField, NoDepth}
+use Rattle.design.specs.declared.Reason.the-variants.{NoSheet, NoDepth}
 use Rattle.design.specs.declared.Answer.{Answer}
 use Rattle.design.specs.declared.Answer.the-variants.{Answered, Refused}
-use Rattle.design.proofs.Zeros.{one-reason}
-use Rattle.design.proofs.OnlyFigures.{figures-only}
-use Rattle.design.proofs.Checked.{Right, Named, designs, told}
+use Rattle.design.proofs.answers.Numbers.{one-reason}
+use Rattle.design.proofs.answers.Figures.{figures-only}
+use Rattle.design.proofs.rows.Checked.{Right, Named, designs, told}
 
 module _ (bytes table : List ℕ) where
   only-figures : (f : Figures) (a : Answer) → Right bytes table a → FiguresAre (sheetIn bytes) (levelIn (sheetIn bytes) table) f → a ≡ Answered f
   only-figures f (Answered g) right are = ap Answered (figures-only (sheetIn bytes) (levelIn (sheetIn bytes) table) g f right are)
   only-figures f (Refused r) right are = absurd right
 
-  only-field : (k : ℕ) (a : Answer) → codeOf a ≡ 3 → Named bytes a → Least (Bad (groupsOf bytes)) k → a ≡ Refused (BadField k)
+  only-field : (k : ℕ) (a : Answer) → codeOf a ≡ 3 → Named bytes a → Least (Bad (groupsOf bytes)) k → a ≡ Refused (NoSheet (BadField k))
   only-field k (Answered f) three names least = absurd names
   only-field k (Refused r) three names least =
-      let is : r ≡ BadField (reasonField r) = one-reason r (BadField (reasonField r)) three refl in
-      ap Refused (is ∙ ap BadField (least-only (Bad (groupsOf bytes)) (reasonField r) k (subst (NamesFirst bytes) is names) least))
+      let is : r ≡ NoSheet (BadField (reasonField r)) = one-reason r (NoSheet (BadField (reasonField r))) three refl in
+      ap Refused (is ∙ ap (λ (n : ℕ). NoSheet (BadField n)) (least-only (Bad (groupsOf bytes)) (reasonField r) k (subst (NamesFirst bytes) is names) least))
 
   -- how a design ended: answered past every row, or refused by one
   abbrev pub Ended : Answer → Type 0
@@ -58,14 +59,14 @@ module _ (bytes table : List ℕ) where
         answer-exactly (designs bytes table) (rows bytes table) tt (designOf bytes table) (told bytes table small) (Answered f) refl
         (only-figures f (designOf bytes table))
 
-    pub field-exactly : (k : ℕ) → (designOf bytes table ≡ Refused (BadField k)) ↔ (Least (Bad (groupsOf bytes)) k × NoneBefore (rows bytes table) 3)
+    pub field-exactly : (k : ℕ) → (designOf bytes table ≡ Refused (NoSheet (BadField k))) ↔ (Least (Bad (groupsOf bytes)) k × NoneBefore (rows bytes table) 3)
     unfolding rows
     field-exactly k =
-        refusal-exactly (designs bytes table) (rows bytes table) tt (designOf bytes table) (told bytes table small) (Refused (BadField k)) (omega arith)
+        refusal-exactly (designs bytes table) (rows bytes table) tt (designOf bytes table) (told bytes table small) (Refused (NoSheet (BadField k))) (omega arith)
         (λ least. record { field = k; bad = least .holds }) (only-field k (designOf bytes table))
 
     -- no depth is said only when no cut meets the definition
-    pub no-depth-only : (fault : Fault) → designOf bytes table ≡ Refused (NoDepth fault) → (d : ℕ) → ¬ Meets (stretchOf (sheetIn bytes) (levelIn (sheetIn bytes) table)) d
+    pub no-depth-only : (fault : DepthFault) → designOf bytes table ≡ Refused (NoDepth fault) → (d : ℕ) → ¬ Meets (stretchOf (sheetIn bytes) (levelIn (sheetIn bytes) table)) d
     unfolding rows
     no-depth-only NoSquatEntry e = unusable-none _ NoSquatEntry (design-exactly .number-given 13 (omega arith) .0 (ap codeOf e) .0)
     no-depth-only SiltOver e = unusable-none _ SiltOver (design-exactly .number-given 14 (omega arith) .0 (ap codeOf e) .0)

@@ -1,14 +1,13 @@
 -- A greater figure never makes a design easier: of the fields that deepen it never lessens the cut, of those that widen never the width.
--- Assumes nothing.
 use mathlib.Core.Path.{_≡_}
 use mathlib.Core.Bool.{true}
 use Prim.Native.Nat.{ℕ}
 use Rattle.design.specs.Design.{designOf}
 use Rattle.design.specs.Harder.{cut, width, NeverEasier, _never-lessens_}
-use Rattle.design.proofs.Exactly.{design-ended}
-use Rattle.design.proofs.Compared.{widens, hardens, compared}
-use Rattle.design.proofs.HarderRows.{level-in-same, no-easier, cut-rises}
-use Rattle.design.proofs.HarderWidths.{width-rises}
+use Rattle.design.proofs.rows.Exactly.{design-ended}
+use Rattle.design.proofs.harder.Compared.{widens, hardens, compared}
+use Rattle.design.proofs.harder.Rows.{level-in-same, no-easier, cut-rises}
+use Rattle.design.proofs.harder.Widths.{width-rises}
 
 pub deepens : (k : ℕ) → hardens k ≡ true → NeverEasier (k never-lessens cut)
 deepens k is easy hard table small small' h =

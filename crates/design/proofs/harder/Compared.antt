@@ -1,5 +1,4 @@
 -- Two sheets of which one has the greater figure in a field: no figure of it is less, and those of the fields that are not moved are the same.
--- Assumes nothing.
 use mathlib.Core.Path.{_≡_, refl, sym, subst, _∙_}
 use mathlib.Core.Bool.{Bool, true, false, _||_, _&&_, not, true≢false, false≢true}
 use mathlib.Core.List.{List}

@@ -1,9 +1,9 @@
 -- Where only beam, wind, currents and wave are moved, the depth is worked from the same figures, and the width is that of a harder stretch.
--- Assumes nothing.
 use mathlib.Core.Path.{_≡_, refl, sym, ap, ap₂, subst, _∙_}
 use mathlib.Core.List.{List}
 use Prim.Native.Nat.{ℕ, _≤_}
-use native.Mathlib.Omega.{arith}
+use lib.Dec.{le→leb}
+use lib.Signed.{_≤ℤ_}
 use Rattle.laws.specs.Extremes.{Least}
 use Rattle.laws.proofs.Extremes.{least-only}
 use Rattle.datum.specs.declared.BelowLevel.{BelowLevel}
@@ -12,25 +12,28 @@ use Rattle.sheet.specs.declared.Sheet.{Sheet}
 use Rattle.lanes.specs.declared.Lanes.{Lanes}
 use Rattle.depth.specs.Depth.{sailing, ownColumn, Meets}
 use Rattle.depth.specs.declared.Stretch.{Stretch as DepthStretch}
-use Rattle.width.specs.Width.{widthOf, widthNumber, widthFigure}
-use Rattle.width.specs.Comparing.{changed, Harder as HarderWidth, NoNarrower, as-wide, refused as no-width}
+use Rattle.width.specs.Bands.{entriesOf}
+use Rattle.width.specs.Refusals.{entriesNumber}
+use Rattle.width.specs.Width.{widthFigure}
+use Rattle.width.specs.Comparing.{changed, Harder as HarderWidth}
 use Rattle.width.specs.declared.Stretch.{Stretch as WidthStretch}
-use Rattle.width.specs.declared.WidthFound.{WidthFound}
-use Rattle.width.proofs.Promises.{else-a-width, harder-never-narrower}
+use Rattle.width.specs.declared.EntriesFound.{EntriesFound}
+use Rattle.width.proofs.Refusals.{entries-exactly}
+use Rattle.width.proofs.Growth.{never-narrower, figure-rises}
 use Rattle.design.specs.Design.{widthStretch, lanesFor}
 use Rattle.design.specs.Refusals.{sheetIn, levelIn, EntryMissing}
 use Rattle.design.specs.Answers.{stretchOf, FiguresAre}
-use Rattle.design.specs.Harder.{width, AtMost}
+use Rattle.design.specs.Harder.{width}
 use Rattle.design.specs.declared.Figures.{Figures}
-use Rattle.design.proofs.Compared.{widens, Compared}
+use Rattle.design.proofs.harder.Compared.{widens, Compared}
 
--- what a width is worked from, apart from the five
-stretch-same : (s s' : Sheet) {l l' : Lanes} {z z' : BelowLevel} → s .draft ≡ s' .draft → s .speed ≡ s' .speed → s .ships ≡ s' .ships
-    → s .water ≡ s' .water → s .handling ≡ s' .handling → s .aids ≡ s' .aids → s .bottom ≡ s' .bottom → s .cargo ≡ s' .cargo
+-- what a width is worked from beside its entries, apart from beam, wind and along current
+stretch-same : (s s' : Sheet) {l l' : Lanes} {z z' : BelowLevel} → s .draft ≡ s' .draft → s .ships ≡ s' .ships
+    → s .handling ≡ s' .handling → s .aids ≡ s' .aids → s .bottom ≡ s' .bottom → s .cargo ≡ s' .cargo
     → s .left ≡ s' .left → s .right ≡ s' .right → l ≡ l' → z ≡ z'
-    → widthStretch s' l' z' ≡ changed (widthStretch s l z) (s' .beam) (s' .wind) (s' .cross) (s' .along) (s' .wave)
-stretch-same s s' draft speed ships water handling aids bottom cargo left right lanes sailing =
-    rw (draft, speed, ships, water, handling, aids, bottom, cargo, left, right, lanes, sailing)
+    → widthStretch s' l' z' ≡ changed (widthStretch s l z) (s' .beam) (s' .wind) (s' .along)
+stretch-same s s' draft ships handling aids bottom cargo left right lanes sailing =
+    rw (draft, ships, handling, aids, bottom, cargo, left, right, lanes, sailing)
 
 -- the width, where only the five that it grows with are moved
 module _ (easy hard table : List ℕ) (lanes : lanesFor (sheetIn easy) ≡ lanesFor (sheetIn hard)) (c : Compared widens easy hard)
@@ -72,11 +75,10 @@ module _ (easy hard table : List ℕ) (lanes : lanesFor (sheetIn easy) ≡ lanes
     abbrev w' : WidthStretch
     w' = widthStretch (sheetIn hard) (lanesFor (sheetIn hard)) (g .sailing)
 
-    others-same : w' ≡ changed w (w' .beam) (w' .wind) (w' .cross) (w' .along) (w' .wave)
+    others-same : w' ≡ changed w (w' .beam) (w' .wind) (w' .along)
     unfolding sheetOf
     others-same =
-        stretch-same (sheetIn easy) (sheetIn hard) (c .same 2 refl) (c .same 5 refl)
-        (c .same 13 refl) (c .same 14 refl) (c .same 15 refl)
+        stretch-same (sheetIn easy) (sheetIn hard) (c .same 2 refl) (c .same 13 refl) (c .same 15 refl)
         (c .same 20 refl) (c .same 21 refl) (c .same 22 refl)
         (c .same 23 refl) (c .same 24 refl) lanes sailing-same
 
@@ -86,17 +88,26 @@ module _ (easy hard table : List ℕ) (lanes : lanesFor (sheetIn easy) ≡ lanes
         record {
           beam = c .rises 4 refl;
           wind = c .rises 16 refl;
-          cross = c .rises 17 refl;
           along = c .rises 18 refl;
-          wave = c .rises 19 refl;
           equal = others-same;
         }
 
-    found-rises : (a b : WidthFound) → NoNarrower a b → widthNumber b ≡ 0 → widthFigure a ≤ widthFigure b
-    found-rises a b (as-wide rises) e = rises
-    found-rises a b no-width e = absurd (omega arith)
+    abbrev found : EntriesFound
+    found = entriesOf (sheetIn easy .water) (sheetIn easy .speed) (sheetIn easy .cross) (sheetIn easy .wave)
 
-    pub width-rises : ¬ EntryMissing (sheetIn hard) → AtMost (width f) (width g)
+    abbrev found' : EntriesFound
+    found' = entriesOf (sheetIn hard .water) (sheetIn hard .speed) (sheetIn hard .cross) (sheetIn hard .wave)
+
+    figures-rise : entriesNumber found' ≡ 0 → widthFigure w found ≤ widthFigure w' found'
+    unfolding sheetOf
+    figures-rise has =
+        let water = c .same 14 refl in
+        let speed = c .same 5 refl in
+        let s = sheetIn hard in
+        rw (water, speed) (figure-rises w w' _ _ (never-narrower w w' (s .water) (s .speed) _ _ _ _ width-harder (c .rises 17 refl) (c .rises 19 refl)) has)
+
+    pub width-rises : ¬ EntryMissing (sheetIn hard) → width f ≤ℤ width g
     width-rises there =
-        let has : widthNumber (widthOf w') ≡ 0 = else-a-width w' .1 (λ no. there (record { sheltered = no .sheltered; beyond = no .beyond })) in
-        rw (are .width, are' .width) (found-rises (widthOf w) (widthOf w') (harder-never-narrower w w' width-harder) has)
+        let s = sheetIn hard in
+        let has = entries-exactly (s .water) (s .speed) (s .cross) (s .wave) .else-answered .1 (there, tt) in
+        rw (are .width, are' .width) (record { le = le→leb _ _ (figures-rise has) })

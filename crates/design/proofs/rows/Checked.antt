@@ -1,0 +1,169 @@
+-- The rows lead to the answer of a design: from the last room to the first, each tells of its own rows and hands on what it found.
+use mathlib.Core.Path.{_≡_, refl, sym, ap, subst, subst⁻¹, _∙_}
+use mathlib.Core.List.{List, []}
+use Prim.Native.Nat.{ℕ}
+use lib.IntN.{pos}
+use Rattle.laws.proofs.Rows.{Told, Call, from, onward}
+use Rattle.datum.specs.declared.Level.{Level}
+use Rattle.sheet.specs.Packing.{Bytes}
+use Rattle.sheet.specs.Sheets.{readOf}
+use Rattle.sheet.specs.Refusals.{readRows, readNumber}
+use Rattle.sheet.specs.declared.Sheet.{Sheet}
+use Rattle.sheet.specs.declared.SheetRead.{SheetRead}
+use Rattle.sheet.specs.declared.SheetRead.the-variants.{Good, NoSheet}
+use Rattle.sheet.specs.declared.ReadFault.the-variants.{WrongLength, SpareBitSet, BadField}
+use Rattle.sheet.proofs.Reading.{Unread, reads, read-told}
+use Rattle.gauge.specs.Designing.{designLevel, levelNumber, levelRows}
+use Rattle.gauge.specs.declared.LevelRead.{LevelRead}
+use Rattle.gauge.specs.declared.LevelRead.the-variants.{Found, NoLevel}
+use Rattle.gauge.proofs.Refusals.{NotFound}
+use Rattle.lanes.specs.declared.Lanes.{Lanes}
+use Rattle.depth.specs.Depth.{depthNumber}
+use Rattle.depth.specs.Worksheet.{workDepth}
+use Rattle.depth.specs.declared.Stretch.{Stretch as DepthStretch}
+use Rattle.depth.specs.declared.Depth.{Depth}
+use Rattle.depth.specs.declared.Depth.the-variants.{Cut, NoCut}
+use Rattle.width.specs.Bands.{entriesOf}
+use Rattle.width.specs.Bends.{bendOf}
+use Rattle.width.specs.Width.{widthFigure}
+use Rattle.width.specs.Refusals.{bendRows, bendNumber, entriesRows, entriesNumber}
+use Rattle.width.specs.declared.Entries.{Entries}
+use Rattle.width.specs.declared.EntriesFound.{EntriesFound}
+use Rattle.width.specs.declared.EntriesFound.the-variants.{Entered, NoEntry}
+use Rattle.width.specs.declared.Bend.{Bend}
+use Rattle.width.specs.declared.Bend.the-variants.{TooTight}
+use Rattle.width.proofs.Refusals.{entering, entries-told, bends, bend-told}
+use Rattle.class.specs.Classes.{widthClass}
+use Rattle.design.specs.Design.{widthStretch, figuresOf, byDepth, pastEntries, byEntries, pastBend, byBend, lanesFor, atLevel, byLevel, levelFor, ofSheet, byReading, designAt, designOf}
+use Rattle.design.specs.Numbers.{codeOf}
+use Rattle.design.specs.Refusals.{sheetIn, levelIn, rows}
+use Rattle.design.specs.Answers.{stretchOf, wideningIn, FiguresAre, NamesFirst}
+use Rattle.design.specs.declared.Answer.{Answer}
+use Rattle.design.specs.declared.Answer.the-variants.{Answered, Refused}
+use Rattle.design.proofs.rows.Rooms.{levelsFrom, offRecord, level-told, depthRows, Worked, NoDepth, depths, depth-told}
+
+-- what is told of a design: an answered one has the figures of its sheet at its level, a refused one names the first bad field
+abbrev pub Right : List ℕ → List ℕ → Answer → Type 0
+Right bytes table (Answered f) = FiguresAre (sheetIn bytes) (levelIn (sheetIn bytes) table) f
+Right bytes table (Refused r) = ⊥
+
+abbrev pub Named : List ℕ → Answer → Type 0
+Named bytes (Answered f) = ⊥
+Named bytes (Refused r) = NamesFirst bytes r
+
+abbrev pub designs : List ℕ → List ℕ → Call Answer
+designs bytes table = record { number = codeOf; answered = Right bytes table; refused = Named bytes }
+
+module _ (bytes table : List ℕ) where
+  -- the rows from one on lead to an answer
+  abbrev From : ℕ → Answer → Type 0
+  From number a = Told (designs bytes table) (from number (rows bytes table)) a
+
+  -- a refusal that a room hands on: the same number, and no field but the first bad one
+  abbrev Handed : ℕ → Answer → Type 0
+  Handed number a = (codeOf a ≡ number) × Named bytes a
+
+  abbrev sheet : Sheet
+  sheet = sheetIn bytes
+
+  abbrev level : Level
+  level = levelIn sheet table
+
+  abbrev lanes : Lanes
+  lanes = lanesFor sheet
+
+  abbrev stretch : DepthStretch
+  stretch = stretchOf sheet level
+
+  abbrev entriesFound : EntriesFound
+  entriesFound = entriesOf (sheet .water) (sheet .speed) (sheet .cross) (sheet .wave)
+
+  -- past them all stand the figures
+  module _ (entries : Entries) (entered : entriesFound ≡ Entered entries) where
+    figures-are : (d : Depth) (worked : Worked stretch d) → FiguresAre sheet level (figuresOf sheet level lanes (wideningIn sheet) entries (worked .figures))
+    unfolding figuresOf
+    figures-are d worked =
+        let w = widthStretch sheet lanes (worked .figures .sailing) in
+        record {
+          level = refl;
+          lanes = refl;
+          cut = worked .meant .cut;
+          sailing-depth = worked .meant .sailing-depth;
+          columns = worked .counted;
+          datum-depth = refl;
+          width = ap (λ (found : EntriesFound). pos (widthFigure w found)) (sym entered);
+          widening = refl;
+          ship-class = refl;
+          width-class = ap (λ (found : EntriesFound). widthClass lanes (widthFigure w found)) (sym entered);
+          depth-class = refl;
+        }
+
+    -- 13, 14, 15
+    abbrev atDepth : Depth → Answer
+    atDepth = byDepth sheet level lanes (wideningIn sheet) entries
+
+    depth-handed : (d : Depth) → NoDepth d → Handed (depthNumber d) (atDepth d)
+    depth-handed (Cut f) none = absurd none
+    depth-handed (NoCut fault) none = (refl, tt)
+
+    past-entries-told : From 13 (pastEntries sheet level lanes (wideningIn sheet) entries)
+    unfolding pastEntries rows
+    past-entries-told =
+        onward (depths stretch) (designs bytes table) atDepth depth-handed (depthRows stretch) [] (workDepth stretch) (depth-told stretch)
+        (λ worked. subst⁻¹ (λ (d : Depth). Told (designs bytes table) [] (atDepth d)) (worked .found) (refl, figures-are (workDepth stretch) worked))
+
+  -- 8
+  abbrev atEntries : EntriesFound → Answer
+  atEntries = byEntries sheet level lanes (wideningIn sheet)
+
+  entries-handed : (found : EntriesFound) → found ≡ NoEntry → Handed (entriesNumber found) (atEntries found)
+  entries-handed found e = rw e (refl, tt)
+
+  past-bend-told : From 8 (pastBend sheet level lanes (wideningIn sheet))
+  unfolding pastBend rows
+  past-bend-told =
+      onward entering (designs bytes table) atEntries entries-handed (entriesRows (sheet .water) (sheet .cross) (sheet .wave))
+      (from 13 (rows bytes table)) entriesFound (entries-told (sheet .water) (sheet .speed) (sheet .cross) (sheet .wave))
+      (λ e. subst⁻¹ (λ (found : EntriesFound). From 13 (atEntries found)) (e .1) (past-entries-told (e .0) (e .1)))
+
+  -- 7
+  abbrev bend : Bend
+  bend = bendOf (sheet .turn) (sheet .radius) (sheet .length) (sheet .speed) lanes
+
+  bend-handed : (b : Bend) → b ≡ TooTight → Handed (bendNumber b) (byBend sheet level lanes b)
+  bend-handed b e = rw e (refl, tt)
+
+  at-level-told : From 7 (atLevel sheet level)
+  unfolding atLevel rows
+  at-level-told =
+      onward bends (designs bytes table) (byBend sheet level lanes) bend-handed (bendRows (sheet .turn) (sheet .radius) (sheet .length))
+      (from 8 (rows bytes table)) bend (bend-told (sheet .turn) (sheet .radius) (sheet .length) (sheet .speed) lanes)
+      (λ e. subst⁻¹ (λ (b : Bend). From 8 (byBend sheet level lanes b)) e past-bend-told)
+
+  -- 4, 5, 6
+  level-handed : (read : LevelRead) → NotFound read → Handed (levelNumber read) (byLevel sheet read)
+  level-handed (Found found) none = absurd none
+  level-handed (NoLevel fault) none = (refl, tt)
+
+  of-sheet-told : From 4 (ofSheet sheet (designLevel table))
+  unfolding ofSheet rows
+  of-sheet-told =
+      onward (levelsFrom (sheet .level) table) (designs bytes table) (byLevel sheet) level-handed (offRecord (sheet .level) (levelRows table))
+      (from 7 (rows bytes table)) (levelFor (sheet .level) (designLevel table)) (level-told (sheet .level) table)
+      (λ e. subst⁻¹ (λ (read : LevelRead). From 7 (byLevel sheet read)) e at-level-told)
+
+  -- 1, 2, 3
+  abbrev reading : SheetRead → Answer
+  reading read = byReading read (designLevel table)
+
+  reading-handed : (read : SheetRead) → Unread bytes read → Handed (readNumber read) (reading read)
+  reading-handed (Good s) none = absurd none
+  reading-handed (NoSheet WrongLength) none = (refl, tt)
+  reading-handed (NoSheet SpareBitSet) none = (refl, tt)
+  reading-handed (NoSheet (BadField k)) first = (refl, first)
+
+  pub told : Bytes bytes → Told (designs bytes table) (rows bytes table) (designOf bytes table)
+  unfolding designOf designAt rows
+  told small =
+      onward (reads bytes) (designs bytes table) reading reading-handed (readRows bytes) (from 4 (rows bytes table)) (readOf bytes)
+      (read-told bytes small) (λ e. subst⁻¹ (λ (read : SheetRead). From 4 (reading read)) e of-sheet-told)
