@@ -1,5 +1,6 @@
 pub mod Never
 pub mod Sums
+pub mod LevelSlots
 pub mod Frequencies
 pub mod Walks
 pub mod Levels
