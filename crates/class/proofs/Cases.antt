@@ -1,5 +1,4 @@
 -- The classes of case S (section 11), in one lane and in two, and the route's, computed.
--- Assumes nothing.
 use mathlib.Core.Path.{_≡_, refl}
 use mathlib.Core.List.{List, [], _∷_}
 use Prim.Native.Nat.{ℕ}

@@ -1,5 +1,4 @@
 -- A figure is in the class that it is given, and in no other where the four limits fall.
--- Assumes nothing.
 use mathlib.Core.Path.{_≡_, refl, subst}
 use mathlib.Core.Bool.{Bool, true, false}
 use mathlib.Core.Logic.{_↔_}

@@ -1,4 +1,4 @@
--- What the classes promise (section 7), each cited from its proof. Assumes nothing.
+-- What the classes promise (section 7), each cited from its proof.
 use mathlib.Core.Path.{_≡_, refl}
 use mathlib.Core.List.{List, [], _∷_, _++_, List·Memᴰ}
 use mathlib.Core.Logic.{_↔_}

@@ -1,5 +1,4 @@
 -- `class::class_by` meets its contract: a way out for each class.
--- Assumes nothing.
 use borrow.Author.Tests.{le-leb, lt-leb}
 use Rattle.class.specs.Classes.{classBy}
 use Rattle.class.proofs.class_by.Statement.{statement}

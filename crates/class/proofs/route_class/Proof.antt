@@ -1,5 +1,4 @@
 -- `class::route_class` meets its contract: a way out for each case of the definition.
--- Assumes nothing.
 use borrow.Author.Tests.{lt-ltb, le-ltb}
 use Rattle.class.specs.Classes.{withShip}
 use Rattle.class.proofs.route_class.Statement.{statement}
