@@ -1,5 +1,4 @@
 -- What holds of each one of a list.
--- Assumes nothing.
 use mathlib.Core.Path.{subst, sym}
 use mathlib.Core.List.{List, [], _∷_, _++_, map, List·Memᴰ, List·Memᴰ·head, List·Memᴰ·tail}
 use Rattle.lines.specs.Decimals.{Each}

@@ -1,6 +1,5 @@
 -- What the putting of a line keeps: the bytes before it and after it, and the whole buffer where there is no room.
 -- By the two cases of the room.
--- Assumes nothing.
 use mathlib.Core.Path.{_≡_, refl}
 use mathlib.Core.Bool.{Bool, true, false}
 use mathlib.Core.List.{List}

@@ -1,6 +1,5 @@
 -- A signed number as the machine reads it and counts it without its sign, and its text.
 -- By cases of the sign.
--- Assumes nothing.
 use mathlib.Core.Path.{_≡_, refl, subst}
 use mathlib.Core.Bool.{true, false}
 use mathlib.Core.List.{List, _∷_}
