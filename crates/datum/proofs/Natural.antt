@@ -1,5 +1,4 @@
 -- A sum as a natural depth: 0 if negative, the deepest that is held where it is more, and itself between.
--- Assumes nothing.
 use mathlib.Core.Path.{_≡_, refl, ap, _∙_}
 use mathlib.Core.Bool.{Bool, true, false, cond}
 use Prim.Native.Nat.{ℕ, suc, _+_, _-_, _≤_, _<_, min}

@@ -1,5 +1,4 @@
 -- What the datums promise (sections 4.1 and 4.8).
--- Assumes nothing.
 use mathlib.Core.Path.{_≡_}
 use Prim.Native.Nat.{ℕ, _+_, _-_, _≤_}
 use lib.IntN.{pos}

@@ -1,5 +1,4 @@
 -- Signed numbers as the machine adds, subtracts and casts them: while they fit, it does what ℤ does.
--- Assumes nothing.
 use mathlib.Core.Path.{_≡_, ap, ap₂, _∙_}
 use mathlib.Core.Bool.{Bool, true, false, cond}
 use Prim.Native.Nat.{ℕ, zero, suc, _+_, _-_, _^_, _≤_, _<_}

@@ -1,5 +1,4 @@
 -- A product fits the widths of its factors together.
--- Assumes nothing.
 use Prim.Native.Nat.{ℕ, _+_, _*_, _^_, _<_}
 use native.Mathlib.Nat.{lt-of-le-of-lt, le-of-lt, mul-le-mul-left, mul-lt-mul-of-pos-right}
 use mathlib.Core.Path.{subst⁻¹}

@@ -1,5 +1,4 @@
 -- Laws of a rounded quotient: that it is the least, a common factor, a quotient in two steps, and one in two parts.
--- Assumes nothing.
 use mathlib.Core.Path.{_≡_, sym, ap, _∙_}
 use Prim.Native.Nat.{ℕ, _+_, _-_, _*_, _/_, _%_, _≤_, _<_}
 use native.Mathlib.Nat.{le-antisymm, le-refl, mul-assoc, mul-comm, add-mul, div-add-mod', mul-le-mul-left, le-of-mul-le-mul-left, mul-pos, add-mul-div-right, add-comm}

@@ -1,5 +1,4 @@
 -- A list of bands rises as its figure grows where each band is no less than the one before it.
--- Assumes nothing.
 use mathlib.Core.Path.{_≡_, refl}
 use mathlib.Core.Bool.{Bool, true, false}
 use Prim.Native.Nat.{ℕ, _≤_}

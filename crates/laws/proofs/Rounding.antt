@@ -1,5 +1,4 @@
 -- Laws of rounding up.
--- Assumes nothing.
 use mathlib.Core.Logic.{_↔_}
 use Prim.Native.Nat.{ℕ, _+_, _-_, _*_, _≤_, _<_}
 use native.Mathlib.Nat.{div-lt-iff-lt-mul, le-refl}

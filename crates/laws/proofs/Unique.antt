@@ -1,5 +1,4 @@
 -- What an equation with a definition leaves open: nothing.
--- Assumes nothing.
 use mathlib.Core.Path.{_≡_, sym, _∙_}
 
 -- two results that both meet `r ≡ defined` are one

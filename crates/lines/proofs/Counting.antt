@@ -1,6 +1,5 @@
 -- A count's text, put from its last digit to its first.
 -- The digits that stand already end the text; what is left to put is the text of what is left of the count.
--- Assumes nothing.
 use mathlib.Core.Path.{_≡_, refl, ap, sym, _∙_}
 use mathlib.Core.List.{List, [], _∷_, _++_, map-append, append-assoc, append-nil}
 use Prim.Native.Nat.{ℕ, suc, _+_, _-_, _/_, _%_, _^_, _≤_, _<_}

@@ -1,6 +1,5 @@
 -- The digits of a number: one division at a time, how many there are, and that they are the number in decimal, as nothing else is.
 -- By induction on divisions by ten.
--- Assumes nothing.
 use mathlib.Core.Path.{_≡_, refl, ap, _∙_}
 use mathlib.Core.Bool.{Bool, true, false}
 use mathlib.Core.List.{List, [], _∷_, _++_}

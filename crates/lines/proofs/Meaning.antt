@@ -1,6 +1,5 @@
 -- The digits of a number are that number in decimal, and nothing else is. A text has one meaning.
 -- By induction on divisions by ten; a last digit is a remainder.
--- Assumes nothing.
 use mathlib.Core.Path.{_≡_, refl, ap, ap₂, subst, sym, _∙_}
 use mathlib.Core.List.{List, [], _∷_, _++_}
 use Prim.Native.Nat.{ℕ, zero, suc, _+_, _*_, _/_, _%_, _≤_, _<_}

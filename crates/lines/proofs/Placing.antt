@@ -1,6 +1,5 @@
 -- A text put at a place of a buffer: byte by byte, one text after another, and what stays as it was.
 -- By the lengths of the parts.
--- Assumes nothing.
 use mathlib.Core.Path.{_≡_, refl, ap, ap₂, sym, _∙_}
 use mathlib.Core.List.{List, [], _∷_, _++_, append-assoc}
 use Prim.Native.Nat.{ℕ, _+_, _≤_, _<_}

@@ -1,5 +1,4 @@
 -- What the lines promise, in the definition's words (the printing program). Each proof stands where it is cited.
--- Assumes nothing.
 use mathlib.Core.Path.{_≡_}
 use mathlib.Core.Bool.{Bool}
 use mathlib.Core.List.{List, [], _∷_, List·Memᴰ}

@@ -1,6 +1,5 @@
 -- The text of a number means it: no two numbers have the same text, and a minus stands in it exactly when it is negative.
 -- Every byte of a count's text is a digit's, and the digits mean the count.
--- Assumes nothing.
 use mathlib.Core.Path.{_≡_, refl, ap, subst, sym, _∙_}
 use mathlib.Core.List.{List, [], _∷_, map, List·Memᴰ, List·Memᴰ·head}
 use mathlib.Core.Logic.{_↔_}

@@ -1,5 +1,4 @@
 -- `datum::datum_depth` meets its contract: the differences fit, so the machine's are those of ℤ.
--- Assumes nothing.
 use mathlib.Core.Path.{ap}
 use mir.Syntax.{w32}
 use native.Mathlib.Omega.{arith}
@@ -8,14 +7,6 @@ use Rattle.datum.specs.Datum.{belowChart, datumDepth}
 use Rattle.datum.proofs.Signs.{level-fits, less-fits, less-back}
 use Rattle.datum.proofs.datum_depth.Statement.{statement}
 use Rattle.datum.proofs.datum_depth.Tie as tie
-use Rattle.datum.proofs.datum_depth.Reads as reads
-use Rattle.datum.proofs.datum_depth.Lts as lts
-
-cast-t3 : tie.Need-cast-t3
-cast-t3 c = search needs
-
-cast-t4 : tie.Need-cast-t4
-cast-t4 c = search needs
 
 sub-t5 : tie.Need-sub-t5
 sub-t5 c = level-fits w32 (c .before .before .args .level .0) (omega arith)
@@ -28,4 +19,4 @@ unfolding datumDepth
 returns c = let a = c .before .before .args in ap belowChart (less-back w32 (a .level .0) (omega arith) (a .cut .0) (omega arith))
 
 pub datum-depth-spec : {M : Type 1} → statement M
-datum-depth-spec = tie.close (tie.spec cast-t3 cast-t4 sub-t5 sub-t6 returns)
+datum-depth-spec = tie.close (tie.spec (λ c. search needs) (λ c. search needs) sub-t5 sub-t6 returns)

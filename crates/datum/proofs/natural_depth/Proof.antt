@@ -1,5 +1,4 @@
 -- `datum::natural_depth` meets its contract: the sum fits 64 bits, so the machine's is that of ℤ, and each way out holds it as defined.
--- Assumes nothing.
 use Prim.Native.Nat.{ℕ}
 use mathlib.Core.Path.{_≡_, ap}
 use native.Mathlib.Omega.{arith}
@@ -25,9 +24,6 @@ module _ (c : lts.After-struct-told reads.Pre reads.Post) where
 
 cast-depth : tie.Need-cast-depth
 cast-depth c = cast-fits w64 0 (omega arith) w32 (c .before .before .args .bed .0) (bed-fits c) (bed-fits-wide c) (omega (arith, bed-fits c .sfits))
-
-cast-depth-2 : tie.Need-cast-depth-2
-cast-depth-2 c = search needs
 
 -- the sum of bed and level, as the code has it before the tests
 module _ (c : lts.After-struct-known2 reads.Pre reads.Post) where
@@ -77,4 +73,4 @@ returns-3 c = rw (sum-is (c .before .before)) (ap below (past-both c .held))
 pub natural-depth-spec : {M : Type 1} → statement M
 natural-depth-spec =
     tie.close
-    (tie.spec cast-depth cast-depth-2 sub-depth add-depth returns returns-2 cast-t8 returns-3)
+    (tie.spec cast-depth (λ c. search needs) sub-depth add-depth returns returns-2 cast-t8 returns-3)

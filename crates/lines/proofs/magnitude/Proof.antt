@@ -1,5 +1,4 @@
 -- `lines::magnitude` meets its contract: no step of its sum wraps, the lowest number's neither.
--- Assumes nothing.
 use mathlib.Core.Path.{_≡_, ap, _∙_}
 use native.Mathlib.Omega.{arith}
 use borrow.Author.Needs.{needs}
@@ -45,9 +44,6 @@ returns c = rw (flipped-back c) (below-zero c .one-less ∙ ap natAbs (read-back
 cast-result-2 : tie.Need-cast-result-2
 cast-result-2 c = (no-sign (read (c .before)) (c .if1 .left), fits-natAbs {w = w32} {w′ = w64} tt (read-fits (c .before)))
 
-returns-2 : tie.Need-returns-2
-returns-2 c = search needs
-
 pub magnitude-spec : {M : Type 1} → statement M
 magnitude-spec =
-    tie.close (tie.spec sub-result cast-result add-result returns cast-result-2 returns-2)
+    tie.close (tie.spec sub-result cast-result add-result returns cast-result-2 (λ c. search needs))

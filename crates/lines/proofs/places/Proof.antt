@@ -1,5 +1,4 @@
 -- `lines::places` meets its contract. The loop's invariant: the count has the places passed and those of what is left.
--- Assumes nothing.
 use Prim.Native.Nat.{_+_, _≤_}
 use mathlib.Core.Path.{_≡_}
 use native.Mathlib.Omega.{arith}

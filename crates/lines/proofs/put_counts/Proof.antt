@@ -1,5 +1,5 @@
 -- `lines::put_counts` meets its contract. The loop's invariant: the counts passed stand, each behind one space.
--- The measure is the counts that are left. Assumes nothing.
+-- The measure is the counts that are left.
 use Prim.Native.Nat.{_+_, _*_, _-_, _≤_}
 use mathlib.Core.Path.{_≡_, refl}
 use native.Mathlib.Omega.{arith}

@@ -1,23 +1,10 @@
 -- `lines::put_index_line` meets its contract: the index, the numbers behind it, the newline after them.
--- Assumes nothing.
 use native.Mathlib.Omega.{arith}
 use lib.ListN.{length-set}
 use Rattle.lines.proofs.Placing.{put-on, then-byte}
 use borrow.Author.Needs.{needs}
 use Rattle.lines.proofs.put_index_line.Statement.{statement}
 use Rattle.lines.proofs.put_index_line.Tie as tie
-
-put-count-requires : tie.Need-put-count-requires
-put-count-requires c κs = search needs
-
-put-numbers-requires : tie.Need-put-numbers-requires
-put-numbers-requires c κs = search needs
-
-slice-write-buffer : tie.Need-slice-write-buffer
-slice-write-buffer c = search needs
-
-add-result : tie.Need-add-result
-add-result c = search needs
 
 same-length : tie.Need-same-length
 same-length c = simp length-set (omega arith)
@@ -34,9 +21,9 @@ pub put-index-line-spec : {M : Type 1} → statement M
 put-index-line-spec =
     tie.close
     (tie.spec
-    put-count-requires
-    put-numbers-requires
-    slice-write-buffer
-    add-result
+    (λ c κs. search needs)
+    (λ c κs. search needs)
+    (λ c. search needs)
+    (λ c. search needs)
     same-length
     returns)

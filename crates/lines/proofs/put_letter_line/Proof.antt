@@ -1,17 +1,10 @@
 -- `lines::put_letter_line` meets its contract: the letter, the counts behind it, the newline after them.
--- Assumes nothing.
 use Rattle.lines.proofs.Placing.{byte-then, then-byte}
 use native.Mathlib.Omega.{arith}
 use borrow.Author.Needs.{needs}
 use lib.ListN.{length-set}
 use Rattle.lines.proofs.put_letter_line.Statement.{statement}
 use Rattle.lines.proofs.put_letter_line.Tie as tie
-
-slice-write-buffer : tie.Need-slice-write-buffer
-slice-write-buffer c = search needs
-
-add-put-counts : tie.Need-add-put-counts
-add-put-counts c = search needs
 
 put-counts-requires : tie.Need-put-counts-requires
 put-counts-requires c κs = simp length-set (omega arith)
@@ -20,9 +13,6 @@ slice-write-buffer-2 : tie.Need-slice-write-buffer-2
 slice-write-buffer-2 c =
     let a = c .before .before .before .before .before .args in
     omega (arith, length-set (a .buffer .now) (a .at) (a .letter))
-
-add-result : tie.Need-add-result
-add-result c = search needs
 
 same-length : tie.Need-same-length
 same-length c =
@@ -41,10 +31,10 @@ pub put-letter-line-spec : {M : Type 1} → statement M
 put-letter-line-spec =
     tie.close
     (tie.spec
-    slice-write-buffer
-    add-put-counts
+    (λ c. search needs)
+    (λ c. search needs)
     put-counts-requires
     slice-write-buffer-2
-    add-result
+    (λ c. search needs)
     same-length
     returns)

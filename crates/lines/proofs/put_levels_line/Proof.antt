@@ -17,9 +17,6 @@ returns c = unfit _ _ _ (sym (c .before .line-fits .ensures) ∙ not-true _ (c .
 put-letter-line-requires : tie.Need-put-letter-line-requires
 put-letter-line-requires c κs = leb-true _ _ (sym (c .before .before .line-fits .ensures) ∙ not-false _ (c .before .if1 .left))
 
-same-length : tie.Need-same-length
-same-length c = search needs
-
 returns-2 : tie.Need-returns-2
 unfolding levelsLine
 returns-2 c = fitting _ _ _ (sym (c .before .before .before .before .before .line-fits .ensures) ∙ not-false _ (c .before .before .before .before .if1 .left)) (c .before .before .put-letter-line .ensures)

@@ -1,5 +1,5 @@
 -- `lines::put_long_count` meets its contract. The loop's invariant: the digits from place on stand, and what is left of the count is still to be put.
--- The measure is what is left. Assumes nothing.
+-- The measure is what is left.
 use Prim.Native.Nat.{_+_, _≤_}
 use mathlib.Core.Path.{_≡_, refl}
 use native.Mathlib.Omega.{arith}
@@ -18,9 +18,6 @@ Inv-loop count buffer₀ at end place₀ rest₀ buffer place rest =
 
 abbrev μ-loop : tie.MeasureT-loop
 μ-loop count buffer₀ at end place₀ rest₀ buffer place rest = rest
-
-places-requires : tie.Need-places-requires Inv-loop μ-loop
-places-requires c κs = search needs
 
 add-end : tie.Need-add-end Inv-loop μ-loop
 add-end c = omega (arith, places-at-most 19 (c .before .before .args .count) (omega arith))
@@ -82,7 +79,7 @@ put-long-count-spec =
     (tie.spec
     Inv-loop
     μ-loop
-    places-requires
+    (λ c κs. search needs)
     add-end
     loop-holds
     sub-place

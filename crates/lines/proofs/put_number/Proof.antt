@@ -1,5 +1,4 @@
 -- `lines::put_number` meets its contract: a way out for each sign, and one for a single digit.
--- Assumes nothing.
 use mathlib.Core.Path.{_≡_, ap, _∙_}
 use lib.IntN.{natAbs}
 use mir.Syntax.{w32}
@@ -11,24 +10,10 @@ use lib.ListN.{length-set}
 use borrow.Author.Needs.{needs}
 use Rattle.lines.proofs.put_number.Statement.{statement}
 use Rattle.lines.proofs.put_number.Tie as tie
-use Rattle.lines.proofs.put_number.Reads as reads
-use Rattle.lines.proofs.put_number.Lts as lts
-use Rattle.lines.proofs.magnitude.Reads as magnitude-reads
-use Rattle.lines.proofs.put_count.Reads as put-count-reads
-use Rattle.lines.proofs.put_digit.Reads as put-digit-reads
 
 -- the number as it is read
 read-back : (s : tie.Start) → toZ w32 (ofZ w32 (s .args .number)) ≡ s .args .number
 read-back s = toZ-ofZ (s .fits .number)
-
-slice-write-buffer : tie.Need-slice-write-buffer
-slice-write-buffer c = search needs
-
-magnitude-requires : tie.Need-magnitude-requires
-magnitude-requires c κs = search needs
-
-add-put-count : tie.Need-add-put-count
-add-put-count c = search needs
 
 put-count-requires : tie.Need-put-count-requires
 put-count-requires c κs = simp length-set (omega arith)
@@ -43,15 +28,6 @@ returns c =
     put-negative (s .args .number) (s .fits .number) (s .args .buffer .now) (s .args .at) _ _
     (rw (read-back s) at (c .before .before .before .before .before .if1 .taken)) (omega arith) (rw m at (c .before .before .put-count .ensures .0))
 
-magnitude-requires-2 : tie.Need-magnitude-requires-2
-magnitude-requires-2 c κs = search needs
-
-put-digit-requires : tie.Need-put-digit-requires
-put-digit-requires c κs = search needs
-
-same-length-2 : tie.Need-same-length-2
-same-length-2 c = search needs
-
 returns-2 : tie.Need-returns-2
 returns-2 c =
     let g = c .before .before .before .before .before in
@@ -59,12 +35,6 @@ returns-2 c =
     let m : g .magnitude2 .result ≡ natAbs (s .args .number) = g .magnitude2 .ensures ∙ ap natAbs (read-back s) in
     put-plain (s .args .number) (s .fits .number) (s .args .buffer .now) (s .args .at) _ _ (rw (read-back s) at (g .before .if1 .left))
     (rw m at (c .before .before .put-digit .ensures .0))
-
-put-count-requires-2 : tie.Need-put-count-requires-2
-put-count-requires-2 c κs = search needs
-
-same-length-3 : tie.Need-same-length-3
-same-length-3 c = search needs
 
 returns-3 : tie.Need-returns-3
 returns-3 c =
@@ -78,16 +48,16 @@ pub put-number-spec : {M : Type 1} → statement M
 put-number-spec =
     tie.close
     (tie.spec
-    slice-write-buffer
-    magnitude-requires
-    add-put-count
+    (λ c. search needs)
+    (λ c κs. search needs)
+    (λ c. search needs)
     put-count-requires
     same-length
     returns
-    magnitude-requires-2
-    put-digit-requires
-    same-length-2
+    (λ c κs. search needs)
+    (λ c κs. search needs)
+    (λ c. search needs)
     returns-2
-    put-count-requires-2
-    same-length-3
+    (λ c κs. search needs)
+    (λ c. search needs)
     returns-3)

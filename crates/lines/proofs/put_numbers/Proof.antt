@@ -1,5 +1,4 @@
 -- `lines::put_numbers` meets its contract: the two runs are all the numbers.
--- Assumes nothing.
 use mathlib.Core.Path.{_≡_}
 use Prim.Native.Nat.{_-_}
 use native.Mathlib.Omega.{arith}
@@ -10,18 +9,6 @@ use Rattle.lines.specs.Lines.{numberCount}
 use Rattle.lines.proofs.Spacing.{two-runs}
 use Rattle.lines.proofs.put_numbers.Statement.{statement}
 use Rattle.lines.proofs.put_numbers.Tie as tie
-use Rattle.lines.proofs.put_numbers.Reads as reads
-use Rattle.lines.proofs.put_numbers.Lts as lts
-use Rattle.lines.proofs.put_run.Reads as put-run-reads
-
-put-run-requires : tie.Need-put-run-requires
-put-run-requires c κs = search needs
-
-put-run-requires-2 : tie.Need-put-run-requires-2
-put-run-requires-2 c κs = search needs
-
-same-length : tie.Need-same-length
-same-length c = search needs
 
 returns : tie.Need-returns
 returns c =
@@ -35,4 +22,4 @@ returns c =
     )
 
 pub put-numbers-spec : {M : Type 1} → statement M
-put-numbers-spec = tie.close (tie.spec put-run-requires put-run-requires-2 same-length returns)
+put-numbers-spec = tie.close (tie.spec (λ c κs. search needs) (λ c κs. search needs) (λ c. search needs) returns)

@@ -1,5 +1,5 @@
 -- `lines::put_run` meets its contract. The loop's invariant: the numbers passed stand, each behind one space.
--- The measure is the numbers that are left. Assumes nothing.
+-- The measure is the numbers that are left.
 use Prim.Native.Nat.{_+_, _*_, _-_, _≤_}
 use mathlib.Core.Path.{_≡_, refl, _∙_}
 use native.Mathlib.Omega.{arith}
