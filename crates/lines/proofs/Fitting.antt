@@ -1,5 +1,4 @@
 -- Whether a line fits, and what its putting comes to either way.
--- Assumes nothing.
 use mathlib.Core.Path.{_≡_, refl}
 use mathlib.Core.Bool.{Bool, true, false}
 use mathlib.Core.List.{List}

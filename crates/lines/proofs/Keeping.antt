@@ -1,5 +1,4 @@
 -- What the putting of a line keeps: the bytes before it and after it, and the whole buffer where no line fits. By the two cases.
--- Assumes nothing.
 use mathlib.Core.Path.{_≡_, refl}
 use mathlib.Core.Bool.{Bool, true, false}
 use mathlib.Core.List.{List}

@@ -1,5 +1,4 @@
 -- No line is longer than the bytes it is given: a count has at most twenty digits and a number at most eleven bytes.
--- Assumes nothing.
 use mathlib.Core.Path.{_≡_, ap, _∙_}
 use mathlib.Core.List.{List, [], _∷_, _++_, map}
 use Prim.Native.Nat.{ℕ, suc, _+_, _*_, _^_, _≤_, _<_}

@@ -1,5 +1,4 @@
 -- `lines::line_fits` meets its contract: neither test can wrap.
--- Assumes nothing.
 use native.Mathlib.Omega.{arith}
 use Prim.Native.Nat.{_+_}
 use borrow.Author.Tests.{lt-leb}

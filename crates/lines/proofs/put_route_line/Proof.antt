@@ -1,5 +1,4 @@
 -- `lines::put_route_line` meets its contract: where a line fits, and where none does.
--- Assumes nothing.
 use mathlib.Core.Path.{sym, _∙_}
 use borrow.Author.Tests.{not-true, not-false, leb-true}
 use Rattle.lines.specs.Lines.{routeLine}
@@ -7,9 +6,6 @@ use Rattle.lines.proofs.Fitting.{unfit, fitting}
 use borrow.Author.Needs.{needs}
 use Rattle.lines.proofs.put_route_line.Statement.{statement}
 use Rattle.lines.proofs.put_route_line.Tie as tie
-
-line-fits-requires : tie.Need-line-fits-requires
-line-fits-requires c κs = search needs
 
 returns : tie.Need-returns
 returns c = unfit _ _ _ (sym (c .before .line-fits .ensures) ∙ not-true _ (c .if1 .taken))
@@ -23,4 +19,4 @@ returns-2 c = fitting _ _ _ (sym (c .before .before .before .before .before .lin
 
 pub put-route-line-spec : {M : Type 1} → statement M
 put-route-line-spec =
-    tie.close (tie.spec line-fits-requires returns put-letter-line-requires same-length returns-2)
+    tie.close (tie.spec (λ c κs. search needs) returns put-letter-line-requires (λ c. search needs) returns-2)
