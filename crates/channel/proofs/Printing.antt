@@ -14,17 +14,17 @@ use Rattle.gauge.specs.declared.LevelRead.{LevelRead}
 use Rattle.design.specs.Design.{designAt}
 use Rattle.design.specs.Numbers.{numbersOf}
 use Rattle.design.specs.declared.Answer.{Answer}
-use Rattle.lines.specs.Lines.{room, sheetLine, placeAfter, bufferAfter}
+use Rattle.lines.specs.Lines.{lineBytes, sheetLine, placeAfter, bufferAfter}
 use Rattle.channel.specs.Route.{withSheet}
 use Rattle.channel.specs.Printing.{Printed, placeFor, sheetPrinted, sheetsPrinted, blockPrinted, restPrinted}
 use Rattle.channel.specs.declared.sheets.Route.{Route}
 
 -- the place for a line
 module _ (buffer : List ℕ) (at : ℕ) where
-  pub place-kept : (at + room ≤ᵇ length buffer) ≡ true → at ≡ placeFor buffer at
+  pub place-kept : (at + lineBytes ≤ᵇ length buffer) ≡ true → at ≡ placeFor buffer at
   place-kept e = rw e
 
-  pub place-first : (at + room ≤ᵇ length buffer) ≡ false → 0 ≡ placeFor buffer at
+  pub place-first : (at + lineBytes ≤ᵇ length buffer) ≡ false → 0 ≡ placeFor buffer at
   place-first e = rw e
 
 -- a sheet's line, from the answer to the buffer

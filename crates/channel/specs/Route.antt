@@ -13,5 +13,5 @@ noSheets = record { sheets = 0; answered = 0; class = routeClass [] }
 -- the route with one more sheet
 abbrev pub withSheet : Route → Answer → Route
 withSheet route (Answered f) =
-    record { sheets = oneMore (route .sheets); answered = oneMore (route .answered); class = withShip (route .class) (f .ship) }
+    record { sheets = oneMore (route .sheets); answered = oneMore (route .answered); class = withShip (route .class) (f .classes .ship) }
 withSheet route (Refused reason) = record { sheets = oneMore (route .sheets); answered = route .answered; class = route .class }

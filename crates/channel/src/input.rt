@@ -11,9 +11,9 @@ pub enum Got {
     Failed,
 }
 
-// What a read answered, of so much room.
-fn got_of(answer: isize, room: usize) -> Got
-    ensures { λ r. ⌜ GotWithin r room ⌝ }
+// What a read answered that could give so many bytes at most.
+fn got_of(answer: isize, most: usize) -> Got
+    ensures { λ r. ⌜ GotWithin r most ⌝ }
 {
     if answer < 0 {
         if os::errno() == libc::EINTR {
@@ -25,7 +25,7 @@ fn got_of(answer: isize, room: usize) -> Got
     if count == 0 {
         return Got::End;
     }
-    if room < count {
+    if most < count {
         return Got::Failed;
     }
     Got::Bytes(count)
@@ -36,9 +36,9 @@ fn read_some(fd: i32, space: &mut [u8], have: usize) -> Got
     requires { ⌜ have ≤ length (now space) ⌝ }
     ensures { λ r. ⌜ GotWithin r (length (now (space .entry)) - have) ⌝ }
 {
-    let room = space.len() - have;
+    let most = space.len() - have;
     let answer = libc::read(fd, &mut space[have..]);
-    got_of(answer, room)
+    got_of(answer, most)
 }
 
 // How much of a space was filled, and why no more: it is full, the input ended, or a read failed.

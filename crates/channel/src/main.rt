@@ -7,7 +7,7 @@ mod levels;
 mod sheets;
 
 fn main() {
-    let mut table = [0u32; 2001];
+    let mut table = [0u32; gauge::SLOTS];
     let loaded = levels::load(&mut table);
     if !loaded.whole {
         return;

@@ -46,7 +46,7 @@ fn with_sheet(route: Route, answer: Answer) -> Route
         Answer::Answered(figures) => Route {
             sheets: record::one_more(route.sheets),
             answered: record::one_more(route.answered),
-            class: class::route_class(route.class, figures.ship),
+            class: class::route_class(route.class, figures.classes.ship),
         },
         Answer::Refused(_) => Route {
             sheets: record::one_more(route.sheets),
@@ -77,13 +77,13 @@ fn put_out(buffer: &[u8], count: usize) -> bool {
     false
 }
 
-// Makes room for a line: what stands in the buffer is written where too little is left.
-fn with_room(buffer: &[u8], state: State) -> State
+// Ready for a line: what stands in the buffer is written where too little is left.
+fn made_ready(buffer: &[u8], state: State) -> State
     ensures { λ r. ⌜ (r .at ≡ placeFor (now (buffer .entry)) (state .at)) × (r .route ≡ state .route) ⌝ }
 {
     let at = state.at;
     let route = state.route;
-    if lines::has_room(buffer.len(), at) {
+    if lines::line_fits(buffer.len(), at) {
         return state;
     }
     let open = put_out(buffer, at);
@@ -94,7 +94,7 @@ fn with_room(buffer: &[u8], state: State) -> State
 fn print_sheet(level: LevelRead, sheet: &[u8], buffer: &mut [u8], state: State) -> State
     ensures { λ r. ⌜ printed r (now (buffer .exit)) ≡ sheetPrinted level (now (sheet .entry)) (printed state (now (buffer .entry))) ⌝ }
 {
-    let ready = with_room(buffer, state);
+    let ready = made_ready(buffer, state);
     let at = ready.at;
     let so_far = ready.route;
     let answer = design::design_at(sheet, level);
@@ -173,7 +173,7 @@ fn print_end(buffer: &mut [u8], state: State, failed: bool) {
         }
         return;
     }
-    let ready = with_room(buffer, state);
+    let ready = made_ready(buffer, state);
     let route = ready.route;
     let at = ready.at;
     let end = lines::put_route_line(route.sheets, route.answered, route.class, &mut *buffer, at);

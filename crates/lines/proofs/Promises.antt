@@ -13,7 +13,8 @@ use Rattle.laws.specs.Choice.{_≤ᵇ_}
 use Rattle.laws.proofs.Unique.{one-answer}
 use Rattle.laws.specs.Each.{Each}
 use Rattle.lines.specs.Decimals.{digits, valueOf, Decimal, minus, countText, numberText}
-use Rattle.lines.specs.Lines.{numberCount, levelsLine, sheetLine, routeLine, lineBytes, placeAfter, bufferAfter}
+use Rattle.design.specs.Numbers.{numberCount}
+use Rattle.lines.specs.Lines.{levelsLine, sheetLine, routeLine, lineBytes, placeAfter, bufferAfter}
 use Rattle.lines.proofs.Meaning.{digits-value, digits-decimal, decimal-only}
 use Rattle.lines.proofs.Texts.{count-text-one, number-text-one, minus-negative}
 use Rattle.lines.proofs.OneLine.{sheet-line-one, levels-line-one, route-line-one}

@@ -10,7 +10,8 @@ use mir.Syntax.{w32}
 use mir.Val.{SFits}
 use Rattle.laws.specs.Each.{Each}
 use Rattle.lines.specs.Decimals.{countText, numberText}
-use Rattle.lines.specs.Lines.{numberCount, newline, letterL, letterR, spaced, lineText, levelsLine, sheetLine, routeLine}
+use Rattle.design.specs.Numbers.{numberCount}
+use Rattle.lines.specs.Lines.{newline, letterL, letterR, spaced, lineText, levelsLine, sheetLine, routeLine}
 use Rattle.laws.proofs.Each.{each-map}
 use Rattle.lines.proofs.Counting.{count-at-most}
 use Rattle.lines.proofs.Signs.{number-at-most}

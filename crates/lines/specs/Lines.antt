@@ -5,6 +5,7 @@ use mathlib.Core.List.{List, [], _∷_, _++_, map}
 use lib.IntN.{ℤ}
 use lib.ListN.{length, take, drop}
 use Rattle.laws.specs.Choice.{if_then_else_, _≤ᵇ_}
+use Rattle.design.specs.Numbers.{numberCount}
 use Rattle.lines.specs.Decimals.{countText, numberText}
 
 -- the bytes of a space, a newline, `L` and `R`
@@ -40,10 +41,6 @@ sheetLine index numbers = lineText (countText index) (map numberText numbers)
 -- the last line: R, sheets, answered, route class
 unfoldable pub routeLine : ℕ → ℕ → ℕ → List ℕ
 routeLine sheets answered class = lineText (letterR ∷ []) (map countText (sheets ∷ answered ∷ class ∷ []))
-
--- how many numbers the line of a sheet has behind its index
-abbrev pub numberCount : ℕ
-numberCount = 13
 
 -- the bytes that a line is given: no line of a sheet has more than 12 for each number and 21 for its index and the newline
 abbrev pub lineBytes : ℕ

@@ -5,16 +5,17 @@ ghost use Prim.Native.Nat.{_+_, _-_, _*_, _≤_, _<_};
 ghost use lib.IntN.{natAbs};
 ghost use lib.ListN.{length, take, drop};
 ghost use Rattle.laws.specs.Choice.{_≤ᵇ_};
+ghost use Rattle.design.specs.Numbers.{numberCount};
 ghost use Rattle.lines.specs.Decimals.{digits, countText, numberText};
-ghost use Rattle.lines.specs.Lines.{numberCount, lineBytes, spaced, lineText, sheetLine, levelsLine, routeLine, placeAfter, bufferAfter, Put};
+ghost use Rattle.lines.specs.Lines.{lineBytes, spaced, lineText, sheetLine, levelsLine, routeLine, placeAfter, bufferAfter, Put};
 
-// The numbers of a sheet's line behind its index, and the counts of a line that begins with a letter.
-const NUMBERS: usize = 13;
+use design::COUNT;
 
+// The counts of a line that begins with a letter.
 const COUNTS: usize = 3;
 
 // The bytes that a line is given: a sheet's has at most 12 for each number and 21 for its index and the newline.
-const LINE_BYTES: usize = 12 * NUMBERS + 36;
+const LINE_BYTES: usize = 12 * COUNT + 36;
 
 const ZERO: u64 = 48;
 
@@ -29,7 +30,7 @@ const LETTER_L: u8 = 76;
 const LETTER_R: u8 = 82;
 
 // Puts the line of a sheet at a place and answers the place after it; the same place, and nothing put, where no line fits.
-pub fn put_sheet_line(index: u64, numbers: [i32; NUMBERS], buffer: &mut [u8], at: usize) -> usize
+pub fn put_sheet_line(index: u64, numbers: [i32; COUNT], buffer: &mut [u8], at: usize) -> usize
     ensures { λ r. ⌜ (r ≡ placeAfter (sheetLine index numbers) at (now (buffer .entry))) × (now (buffer .exit) ≡ bufferAfter (sheetLine index numbers) at (now (buffer .entry))) ⌝ }
 {
     if !line_fits(buffer.len(), at) {
@@ -75,7 +76,7 @@ pub fn line_fits(bytes: usize, at: usize) -> bool
 }
 
 // A line of an index and the numbers of a sheet.
-fn put_index_line(index: u64, numbers: [i32; NUMBERS], buffer: &mut [u8], at: usize) -> usize
+fn put_index_line(index: u64, numbers: [i32; COUNT], buffer: &mut [u8], at: usize) -> usize
     requires { ⌜ at + lineBytes ≤ length (now buffer) ⌝ }
     ensures { λ r. ⌜ Put (now (buffer .entry)) at (lineText (countText index) (map numberText numbers)) (now (buffer .exit)) r ⌝ }
 {
@@ -97,16 +98,16 @@ fn put_letter_line(letter: u8, counts: [u64; COUNTS], buffer: &mut [u8], at: usi
 }
 
 // Signed numbers, each behind one space. In two short runs: the compiler lays each out flat.
-fn put_numbers(numbers: [i32; NUMBERS], buffer: &mut [u8], at: usize) -> usize
+fn put_numbers(numbers: [i32; COUNT], buffer: &mut [u8], at: usize) -> usize
     requires { ⌜ at + 12 * numberCount + 16 ≤ length (now buffer) ⌝ }
     ensures { λ r. ⌜ Put (now (buffer .entry)) at (spaced (map numberText numbers)) (now (buffer .exit)) r × (r ≤ at + 12 * numberCount) ⌝ }
 {
     let middle = put_run(numbers, 0, 7, buffer, at);
-    put_run(numbers, 7, NUMBERS, buffer, middle)
+    put_run(numbers, 7, COUNT, buffer, middle)
 }
 
 // The numbers past the first `from`, up to `to`.
-fn put_run(numbers: [i32; NUMBERS], from: usize, to: usize, buffer: &mut [u8], at: usize) -> usize
+fn put_run(numbers: [i32; COUNT], from: usize, to: usize, buffer: &mut [u8], at: usize) -> usize
     requires { ⌜ (from ≤ to) × (to ≤ numberCount) × (at + 12 * (to - from) + 16 ≤ length (now buffer)) ⌝ }
     ensures { λ r. ⌜ Put (now (buffer .entry)) at (spaced (map numberText (take (to - from) (drop from numbers)))) (now (buffer .exit)) r × (r ≤ at + 12 * (to - from)) ⌝ }
 {

@@ -1,4 +1,3 @@
-pub mod Signs
-pub mod Placing
-pub mod Planning
+mod Placing
+mod Planning
 pub mod Promises

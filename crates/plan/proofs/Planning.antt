@@ -1,5 +1,4 @@
 -- Each way out of the call from C, exactly when it is taken, and what it leaves in the place.
--- Assumes nothing.
 use mathlib.Core.Path.{_≡_, refl, ap, sym, _∙_}
 use mathlib.Core.Bool.{Bool, true, false}
 use mathlib.Core.List.{List, [], _++_}
@@ -13,15 +12,12 @@ use lib.ListN.{length, take, drop}
 use lib.Seq.{drop-at, take-at}
 use Rattle.laws.specs.Choice.{if_then_else_}
 use Rattle.laws.specs.Rows.{_when_, Exactly}
-use Rattle.laws.proofs.Rows.{bare, exactly, tested, bared}
+use Rattle.laws.proofs.Rows.{in-front}
 use Rattle.sheet.specs.Packing.{Bytes}
-use Rattle.design.specs.Design.{designOf}
-use Rattle.design.specs.Numbers.{numbersOf}
-use Rattle.design.specs.Refusals.{rows, codeOf}
+use Rattle.design.specs.Numbers.{codeOf, numbersOf}
+use Rattle.design.specs.Refusals.{rows}
 use Rattle.design.specs.declared.Answer.{Answer}
-use Rattle.design.proofs.Checked.{designs, told}
-use Rattle.design.proofs.Zeros.{code-never}
-use Rattle.design.proofs.Promises.{no-table, thirteen-numbers}
+use Rattle.design.proofs.Promises.{no-table, number-given, unlisted-never, all-numbers}
 use Rattle.plan.specs.Words.{bytesOfNumbers}
 use Rattle.plan.specs.Plan.{needed, planned, planNumber, planPlace, planRows}
 use Rattle.plan.proofs.Placing.{bytes-length}
@@ -31,11 +27,11 @@ module _ (sheet place : List ℕ) where
   unfolding planNumber planPlace
   too-small h = rw (lt-ltb (length place) needed h) (refl, refl)
 
-  pub has-room : (a : Answer) (numbers : List ℤ) (code : ℕ) (later : List ℕ) → needed ≤ length place → a ≡ planned sheet
+  pub large-enough : (a : Answer) (numbers : List ℤ) (code : ℕ) (later : List ℕ) → needed ≤ length place → a ≡ planned sheet
       → numbers ≡ numbersOf a → code ≡ codeOf a → later ≡ bytesOfNumbers numbers ++ drop needed place
       → (code ≡ planNumber sheet place) × (later ≡ planPlace sheet place)
   unfolding planNumber planPlace
-  has-room a numbers code later h e n c l =
+  large-enough a numbers code later h e n c l =
       rw (le-ltb (length place) needed h)
       (c ∙ ap codeOf e, l ∙ ap (λ (z : List ℤ). bytesOfNumbers z ++ drop needed place) (n ∙ ap numbersOf e))
 
@@ -46,25 +42,23 @@ module _ (sheet place : List ℕ) where
       go : (b : Bool) → ltb (length place) needed ≡ b → (if b then 12 else codeOf (planned sheet)) ≡ 12 → length place < needed
       go true p e = ltb-true _ _ p
       -- no design is refused by 12
-      go false p e = absurd (code-never sheet [] (planned sheet) 12 (omega arith) tt e)
+      go false p e = absurd (unlisted-never sheet [] 12 (omega arith) tt (ap codeOf (sym (no-table sheet)) ∙ e))
 
   -- 12, then the rows of a design
   pub number-exactly : Bytes sheet → Exactly (planRows sheet place) (planNumber sheet place)
   unfolding planNumber rows
   number-exactly small =
-      exactly (bare (λ (n : ℕ). n)) (planRows sheet place) tt (planNumber sheet place)
-      (tested (bare (λ (n : ℕ). n)) (12 when (length place < needed)) (rows sheet []) (ltb (length place) needed) 12 (codeOf (planned sheet))
-      (ltb-true (length place) needed) (λ e h. omega (arith, ltb-false (length place) needed e)) (refl, tt)
-      (rw no-table (bared (designs sheet []) (rows sheet []) (designOf sheet []) (told sheet [] small))))
+      in-front (12 when (length place < needed)) (rows sheet []) tt (ltb (length place) needed) (codeOf (planned sheet))
+      (ltb-true (length place) needed) (λ e h. omega (arith, ltb-false (length place) needed e)) (rw no-table (number-given sheet [] small))
 
-  pub code-with-room : needed ≤ length place → planNumber sheet place ≡ codeOf (planned sheet)
+  pub code-where-large : needed ≤ length place → planNumber sheet place ≡ codeOf (planned sheet)
   unfolding planNumber
-  code-with-room h = rw (le-ltb (length place) needed h)
+  code-where-large h = rw (le-ltb (length place) needed h)
 
   filled : length (bytesOfNumbers (numbersOf (planned sheet))) ≡ needed
-  filled = bytes-length (numbersOf (planned sheet)) ∙ ap (λ (n : ℕ). 4 * n) (thirteen-numbers (planned sheet))
+  filled = bytes-length (numbersOf (planned sheet)) ∙ ap (λ (n : ℕ). 4 * n) (all-numbers (planned sheet))
 
-  -- with room, the numbers stand first and nothing later changes; without, nothing changes at all
+  -- in a place that is large enough the numbers stand first and nothing later changes; in a smaller one nothing changes at all
   pub numbers-first : needed ≤ length place → take needed (planPlace sheet place) ≡ bytesOfNumbers (numbersOf (planned sheet))
   unfolding planPlace
   numbers-first h = rw (le-ltb (length place) needed h) (take-at (bytesOfNumbers (numbersOf (planned sheet))) (drop needed place) needed filled)

@@ -8,11 +8,10 @@ use lib.ListN.{length, take, drop}
 use Rattle.laws.specs.Rows.{Exactly}
 use Rattle.laws.proofs.Unique.{one-answer}
 use Rattle.sheet.specs.Packing.{Bytes}
-use Rattle.design.specs.Numbers.{numbersOf}
-use Rattle.design.specs.Refusals.{codeOf}
+use Rattle.design.specs.Numbers.{codeOf, numbersOf}
 use Rattle.plan.specs.Words.{bytesOfNumbers}
 use Rattle.plan.specs.Plan.{needed, planned, planNumber, planPlace, planRows}
-use Rattle.plan.proofs.Planning.{too-small, twelve-exactly, number-exactly, code-with-room, numbers-first, later-stay}
+use Rattle.plan.proofs.Planning.{too-small, twelve-exactly, number-exactly, code-where-large, numbers-first, later-stay}
 
 -- 12, tested first: a place under 52 bytes.
 pub number-12 : (sheet place : List ℕ) → (planNumber sheet place ≡ 12) ↔ (length place < needed)
@@ -28,7 +27,7 @@ nothing-written sheet place h = too-small sheet place h .1
 
 -- Otherwise the code is returned.
 pub code-returned : (sheet place : List ℕ) → needed ≤ length place → planNumber sheet place ≡ codeOf (planned sheet)
-code-returned = code-with-room
+code-returned = code-where-large
 
 -- The first 52 bytes get thirteen signed 32-bit numbers, most significant byte first.
 pub numbers-written : (sheet place : List ℕ) → needed ≤ length place → take needed (planPlace sheet place) ≡ bytesOfNumbers (numbersOf (planned sheet))

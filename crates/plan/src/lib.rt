@@ -1,4 +1,4 @@
-// The call from C: a sheet's bytes in, thirteen numbers into a place that is lent, the code back (definition, section 9).
+// The call from C: a sheet's bytes in, the numbers of its design into a place that is lent, the code back (definition, section 9).
 ghost use mathlib.Core.Path.{_≡_};
 ghost use mathlib.Core.List.{_++_};
 ghost use Prim.Native.Nat.{_+_, _≤_};
@@ -6,14 +6,16 @@ ghost use lib.ListN.{length, drop};
 ghost use lib.Seq.{sets};
 ghost use mir.Syntax.{w32};
 ghost use mir.Val.{ofZ};
-ghost use Rattle.design.specs.Refusals.{codeOf};
+ghost use Rattle.design.specs.Numbers.{codeOf};
 ghost use Rattle.plan.specs.Words.{wordBytes, bytesOfNumbers};
-ghost use Rattle.plan.specs.Plan.{planNumber, planPlace};
+ghost use Rattle.plan.specs.Plan.{needed, planNumber, planPlace};
 use design::Answer;
+use design::COUNT;
+use gauge::LevelFault;
 use gauge::LevelRead;
 
-// The numbers of an answer.
-const COUNT: usize = 13;
+// The bytes of an answer: four for each number.
+const NEEDED: usize = 4 * COUNT;
 
 // The 32 bits of a signed number, in two's complement.
 fn word_of(number: i32) -> u32
@@ -37,10 +39,10 @@ fn put_word(place: &mut [u8], at: usize, word: u32)
     place[at + 3] = (word % 256) as u8;
 }
 
-// Thirteen numbers into the first 52 bytes.
+// The numbers into the first bytes.
 fn put_numbers(numbers: [i32; COUNT], place: &mut [u8])
-    requires { ⌜ 52 ≤ length (now place) ⌝ }
-    ensures { λ _. ⌜ now (place .exit) ≡ bytesOfNumbers numbers ++ drop 52 (now (place .entry)) ⌝ }
+    requires { ⌜ needed ≤ length (now place) ⌝ }
+    ensures { λ _. ⌜ now (place .exit) ≡ bytesOfNumbers numbers ++ drop needed (now (place .entry)) ⌝ }
 {
     let mut i: usize = 0;
     while i < COUNT {
@@ -63,10 +65,10 @@ fn code_of(answer: Answer) -> u32
 pub extern "C" fn channel_plan(sheet: &[u8], place: &mut [u8]) -> u32
     ensures { λ r. ⌜ (r ≡ planNumber (now (sheet .entry)) (now (place .entry))) × (now (place .exit) ≡ planPlace (now (sheet .entry)) (now (place .entry))) ⌝ }
 {
-    if place.len() < 52 {
+    if place.len() < NEEDED {
         return 12;
     }
-    let answer = design::design_at(sheet, LevelRead::WrongTable);
+    let answer = design::design_at(sheet, LevelRead::NoLevel(LevelFault::WrongTable));
     let numbers = design::numbers(answer);
     put_numbers(numbers, place);
     code_of(answer)

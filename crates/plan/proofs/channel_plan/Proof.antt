@@ -1,6 +1,6 @@
--- `plan::channel_plan` meets its contract: no room, or the numbers and the code of the design.
+-- `plan::channel_plan` meets its contract: a place too small, or the numbers and the code of the design.
 -- Assumes nothing.
-use Rattle.plan.proofs.Planning.{too-small, has-room}
+use Rattle.plan.proofs.Planning.{too-small, large-enough}
 use borrow.Author.Needs.{needs}
 use Rattle.plan.proofs.channel_plan.Statement.{statement}
 use Rattle.plan.proofs.channel_plan.Tie as tie
@@ -33,7 +33,7 @@ returns-2 : tie.Need-returns-2
 returns-2 c =
     let put = c .before .before .before in
     let numbers = put .before .before in
-    has-room _ _ _ _ _ _ (numbers .before .before .if1 .left) (numbers .before .design-at .ensures) (numbers .numbers .ensures)
+    large-enough _ _ _ _ _ _ (numbers .before .before .if1 .left) (numbers .before .design-at .ensures) (numbers .numbers .ensures)
     (c .code-of .ensures) (put .put-numbers .ensures)
 
 pub channel-plan-spec : {M : Type 1} → statement M

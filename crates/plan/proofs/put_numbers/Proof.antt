@@ -11,6 +11,7 @@ use borrow.Author.Needs.{needs}
 use mir.Syntax.{w32}
 use mir.Val.{toZ, ofZ}
 use mir.Facts.{toZ-ofZ}
+use Rattle.design.specs.Numbers.{numberCount}
 use Rattle.plan.specs.Words.{wordBytes, bytesOfNumbers}
 use Rattle.plan.proofs.Placing.{one-more}
 use Rattle.plan.proofs.put_numbers.Statement.{statement}
@@ -22,10 +23,10 @@ use Rattle.plan.proofs.word_of.Reads as word-of-reads
 
 abbrev Inv-loop : tie.InvT-loop
 Inv-loop place₀ numbers i₀ place i =
-    (i ≤ 13) × (length place ≡ length place₀) × (place ≡ bytesOfNumbers (take i numbers) ++ drop (4 * i) place₀) × (length numbers ≡ 13)
+    (i ≤ numberCount) × (length place ≡ length place₀) × (place ≡ bytesOfNumbers (take i numbers) ++ drop (4 * i) place₀) × (length numbers ≡ numberCount)
 
 abbrev μ-loop : tie.MeasureT-loop
-μ-loop place₀ numbers i₀ place i = 13 - i
+μ-loop place₀ numbers i₀ place i = numberCount - i
 
 loop-holds : tie.Need-loop-holds Inv-loop μ-loop
 loop-holds c = (omega arith, refl, refl, search needs)
@@ -70,9 +71,9 @@ returns : tie.Need-returns Inv-loop μ-loop
 returns c =
     let s = c .before .before .before in
     let l = c .before .loop in
-    let e : l .i ≡ 13 = omega arith in
+    let e : l .i ≡ numberCount = omega arith in
     let numbers = s .args .t1 in
-    l .inv .2 ∙ rw (e, take-all 13 numbers (omega arith))
+    l .inv .2 ∙ rw (e, take-all numberCount numbers (omega arith))
 
 pub put-numbers-spec : {M : Type 1} → statement M
 put-numbers-spec =

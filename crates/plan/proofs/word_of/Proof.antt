@@ -4,8 +4,9 @@ use mathlib.Core.Path.{_≡_}
 use lib.IntN.{ℤ}
 use mir.Syntax.{w32}
 use mir.Val.{toZ, ofZ}
+use native.Mathlib.Omega.{arith}
 use mir.Facts.{toZ-ofZ, fits-natAbs}
-use Rattle.plan.proofs.Signs.{under, Under, negative, not-negative}
+use Rattle.laws.proofs.Signs.{flipped, Flipped, flip, no-sign, own-bits}
 use Rattle.plan.proofs.word_of.Statement.{statement}
 use Rattle.plan.proofs.word_of.Tie as tie
 use Rattle.plan.proofs.word_of.Reads as reads
@@ -20,28 +21,28 @@ module _ (s : tie.Start) where
   read-is = toZ-ofZ (s .fits .number)
 
 -- past the test, for a negative one
-under-it : (c : lts.Then1 reads.Pre reads.Post) → Under (number (c .before))
-under-it c = negative (number (c .before)) (rw (read-is (c .before)) at (c .if1 .taken)) (c .before .fits .number)
+under-it : (c : lts.Then1 reads.Pre reads.Post) → Flipped (number (c .before))
+under-it c = flip (number (c .before)) (rw (read-is (c .before)) at (c .if1 .taken)) (c .before .fits .number)
 
 sub-result : tie.Need-sub-result
 sub-result c = rw (read-is (c .before)) (under-it c .fits)
 
 -- what lies under -1, as the machine reads it
 under-is : (c : lts.Then1 reads.Pre reads.Post)
-    → toZ w32 (ofZ w32 (under (toZ w32 (ofZ w32 (number (c .before)))))) ≡ under (number (c .before))
+    → toZ w32 (ofZ w32 (flipped (toZ w32 (ofZ w32 (number (c .before)))))) ≡ flipped (number (c .before))
 under-is c = rw (read-is (c .before)) (toZ-ofZ (under-it c .fits))
 
 cast-result : tie.Need-cast-result
 cast-result c =
-    rw (under-is c) (under-it c .sign, fits-natAbs {w = w32} {w′ = w32} {z = under (number (c .before))} tt (under-it c .fits))
+    rw (under-is c) (under-it c .sign, fits-natAbs {w = w32} {w′ = w32} {z = flipped (number (c .before))} tt (under-it c .fits))
 
 sub-result-2 : tie.Need-sub-result-2
-sub-result-2 c = rw (under-is c) (under-it c .small)
+sub-result-2 c = rw (under-is c) (omega (arith, under-it c .size))
 
 cast-result-2 : tie.Need-cast-result-2
 cast-result-2 c =
     rw (read-is (c .before)) (
-      not-negative (number (c .before)) (rw (read-is (c .before)) at (c .if1 .left)) .0,
+      no-sign (number (c .before)) (rw (read-is (c .before)) at (c .if1 .left)),
       fits-natAbs {w = w32} {w′ = w32} {z = number (c .before)} tt (c .before .fits .number),
     )
 
@@ -49,7 +50,7 @@ returns : tie.Need-returns
 returns c = rw (under-is c) (under-it c .bits)
 
 returns-2 : tie.Need-returns-2
-returns-2 c = rw (read-is (c .before)) (not-negative (number (c .before)) (rw (read-is (c .before)) at (c .if1 .left)) .1)
+returns-2 c = rw (read-is (c .before)) (own-bits (number (c .before)) (rw (read-is (c .before)) at (c .if1 .left)))
 
 pub word-of-spec : {M : Type 1} → statement M
 word-of-spec =
