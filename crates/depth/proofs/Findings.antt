@@ -8,12 +8,12 @@ use borrow.Author.Tests.{leb-true, leb-false, ltb-true, ltb-false, eqb-true, eqb
 use lib.Dec.{leb, ltb, eqb}
 use Rattle.laws.specs.Choice.{if_then_else_}
 use Rattle.depth.specs.declared.Try.{Try}
-use Rattle.depth.specs.declared.Fault.{Fault}
-use Rattle.depth.specs.declared.Fault.the-variants.{NoSquatEntry, SiltOver, CutOver}
+use Rattle.depth.specs.declared.DepthFault.{DepthFault}
+use Rattle.depth.specs.declared.DepthFault.the-variants.{NoSquatEntry, SiltOver, CutOver}
 use Rattle.depth.specs.declared.Finding.{Finding}
 use Rattle.depth.specs.declared.Finding.the-variants.{Stays, Moves, Unusable}
 use Rattle.depth.specs.Squat.{none, columnNumber}
-use Rattle.depth.specs.Depth.{faultNumber}
+use Rattle.depth.specs.Depth.{depthFaultNumber}
 use Rattle.depth.specs.Worksheet.{findingOf, isMove, movesOn, answerBy, answerOf}
 
 module _ (t : Try) where
@@ -46,18 +46,18 @@ pub record Within (t : Try) : Type 0 where
   pub to : t .figure .0 ≤ 3000
 
 -- a try past a limit, and past none before it
-abbrev pub Past : Try → Fault → Type 0
+abbrev pub Past : Try → DepthFault → Type 0
 Past t NoSquatEntry = none ≤ t .squat
 Past t SiltOver = (t .squat < none) × (120 < t .silt)
 Past t CutOver = (t .squat < none) × (t .silt ≤ 120) × (3000 < t .figure .0)
 
-pub not-within : (t : Try) (fault : Fault) → Past t fault → Within t → ⊥
+pub not-within : (t : Try) (fault : DepthFault) → Past t fault → Within t → ⊥
 not-within t NoSquatEntry p w = omega (arith, w .entry)
 not-within t SiltOver p w = omega (arith, w .silt)
 not-within t CutOver p w = omega (arith, w .to)
 
 -- the numbers of the faults
-pub fault-known : (fault : Fault) → (13 ≤ faultNumber fault) × (faultNumber fault ≤ 15)
+pub fault-known : (fault : DepthFault) → (13 ≤ depthFaultNumber fault) × (depthFaultNumber fault ≤ 15)
 fault-known NoSquatEntry = omega arith
 fault-known SiltOver = omega arith
 fault-known CutOver = omega arith

@@ -12,7 +12,7 @@ use Rattle.depth.specs.declared.Stretch.{Stretch}
 use Rattle.depth.specs.declared.Column.{Column}
 use Rattle.depth.specs.declared.Column.the-variants.{A}
 use Rattle.depth.specs.declared.Try.{Try}
-use Rattle.depth.specs.declared.Fault.{Fault}
+use Rattle.depth.specs.declared.DepthFault.{DepthFault}
 use Rattle.depth.specs.declared.Finding.the-variants.{Unusable}
 use Rattle.depth.specs.declared.Worksheet.{Worksheet}
 use Rattle.depth.specs.declared.DepthFigures.{DepthFigures}
@@ -20,7 +20,7 @@ use Rattle.depth.specs.declared.Depth.{Depth}
 use Rattle.depth.specs.declared.Depth.the-variants.{Cut, NoCut}
 use Rattle.depth.specs.Interval.{intervalOf}
 use Rattle.depth.specs.Squat.{columnNumber, squatReading, squatOf}
-use Rattle.depth.specs.Depth.{Meets, AsDefined, Ranges, faultNumber, depthNumber, NoDepthNumber}
+use Rattle.depth.specs.Depth.{Meets, AsDefined, Ranges, depthFaultNumber, depthNumber, NoDepthNumber}
 use Rattle.depth.specs.Worksheet.{columnTry, blankTry, findingOf, tries, worksheetOf, answerOf, workDepth, Forward, Followed, Counted}
 use Rattle.depth.specs.Reasons.{FirstUnusable, Reasoned}
 use Rattle.depth.specs.Harder.{Harder, Deeper, NeverCured}
@@ -48,11 +48,11 @@ no-other-depth = reasons.no-other
 
 -- 13 no squat entry, 14 silt over 120, 15 cut over 3,000: given exactly when the first column that the worksheet cannot use fails by this test
 -- and by none before it.
-pub number-exactly : (q : Stretch) (fault : Fault) → (depthNumber (workDepth q) ≡ faultNumber fault) ↔ FirstUnusable q fault
+pub number-exactly : (q : Stretch) (fault : DepthFault) → (depthNumber (workDepth q) ≡ depthFaultNumber fault) ↔ FirstUnusable q fault
 number-exactly = reasons.number-exactly
 
 -- A stretch with a first column that the worksheet cannot use has no cut as defined.
-pub unusable-none : (q : Stretch) (fault : Fault) → FirstUnusable q fault → (d : ℕ) → Meets q d → ⊥
+pub unusable-none : (q : Stretch) (fault : DepthFault) → FirstUnusable q fault → (d : ℕ) → Meets q d → ⊥
 unusable-none = reasons.no-meeting
 
 -- One of the three is given exactly when there is no cut as defined, and the depth is answered exactly when there is one.
@@ -87,7 +87,7 @@ pub depth-of-last-try : (q : Stretch)
 depth-of-last-try = work-of-last
 
 -- Where there is no depth, the last line of the worksheet is the try that fails, and shows the reason.
-pub failing-try-shown : (q : Stretch) (fault : Fault) → workDepth q ≡ NoCut fault
+pub failing-try-shown : (q : Stretch) (fault : DepthFault) → workDepth q ≡ NoCut fault
     → findingOf (getD (worksheetOf q .tries) (worksheetOf q .count - 1) blankTry) ≡ Unusable fault
 failing-try-shown q fault e = ap findingOf (last-line-is q) ∙ reasons.last-shows q fault e
 
@@ -115,7 +115,7 @@ starred = the-starred.starred
 pub one-interval : (code r s : ℕ) → r ≡ intervalOf code → s ≡ intervalOf code → r ≡ s
 one-interval code = one-answer
 
-pub one-fault-number : (fault : Fault) (r s : ℕ) → r ≡ faultNumber fault → s ≡ faultNumber fault → r ≡ s
+pub one-fault-number : (fault : DepthFault) (r s : ℕ) → r ≡ depthFaultNumber fault → s ≡ depthFaultNumber fault → r ≡ s
 one-fault-number fault = one-answer
 
 pub one-worksheet : (q : Stretch) (r s : Worksheet) → r ≡ worksheetOf q → s ≡ worksheetOf q → r ≡ s

@@ -13,14 +13,14 @@ use Rattle.depth.specs.declared.Stretch.{Stretch}
 use Rattle.depth.specs.declared.Column.{Column}
 use Rattle.depth.specs.declared.Column.the-variants.{A}
 use Rattle.depth.specs.declared.Try.{Try}
-use Rattle.depth.specs.declared.Fault.{Fault}
-use Rattle.depth.specs.declared.Fault.the-variants.{NoSquatEntry, SiltOver, CutOver}
+use Rattle.depth.specs.declared.DepthFault.{DepthFault}
+use Rattle.depth.specs.declared.DepthFault.the-variants.{NoSquatEntry, SiltOver, CutOver}
 use Rattle.depth.specs.declared.Finding.{Finding}
 use Rattle.depth.specs.declared.Finding.the-variants.{Stays, Moves, Unusable}
 use Rattle.depth.specs.declared.Depth.{Depth}
 use Rattle.depth.specs.declared.Depth.the-variants.{Cut, NoCut}
 use Rattle.depth.specs.Squat.{none, columnNumber}
-use Rattle.depth.specs.Depth.{sailing, ownColumn, Meets, AsDefined, faultNumber, depthNumber, NoDepthNumber}
+use Rattle.depth.specs.Depth.{sailing, ownColumn, Meets, AsDefined, depthFaultNumber, depthNumber, NoDepthNumber}
 use Rattle.depth.specs.Worksheet.{figure, columnTry, findingOf, isMove, movesOn, tries, lastTry, answerBy, answerOf, workDepth, Followed, Counted}
 use Rattle.depth.specs.Reasons.{Usable, Fails, Comes, there, by-way-of, FirstUnusable, Reasoned}
 use Rattle.depth.proofs.Columns.{same-column}
@@ -33,13 +33,13 @@ cutOf cut sailing columns = Cut (record { cut = below cut; sailing = below saili
 
 module _ (q : Stretch) where
   -- a column as its line has it
-  past-fails : (c : Column) (fault : Fault) → Past (columnTry q c) fault → Fails q c fault
+  past-fails : (c : Column) (fault : DepthFault) → Past (columnTry q c) fault → Fails q c fault
   unfolding columnTry
   past-fails c NoSquatEntry p = p
   past-fails c SiltOver p = p
   past-fails c CutOver p = p
 
-  fails-found : (c : Column) (fault : Fault) → Fails q c fault → Unusable fault ≡ findingOf (columnTry q c)
+  fails-found : (c : Column) (fault : DepthFault) → Fails q c fault → Unusable fault ≡ findingOf (columnTry q c)
   unfolding columnTry
   fails-found c NoSquatEntry p = no-entry _ p
   fails-found c SiltOver p = too-much-silt _ (p .0) (p .1)
@@ -96,7 +96,7 @@ module _ (q : Stretch) where
   still-stops : (c : Column) → movesOn (columnTry q c) ≡ false → Stops c
   still-stops c e u other = true≢false (sym (usable-moves c u other) ∙ e)
 
-  fails-stops : (c : Column) (fault : Fault) → Fails q c fault → Stops c
+  fails-stops : (c : Column) (fault : DepthFault) → Fails q c fault → Stops c
   unfolding movesOn
   fails-stops c fault p = still-stops c (ap isMove (sym (fails-found c fault p)))
 
@@ -110,7 +110,7 @@ module _ (q : Stretch) where
   the-last : Last A (lastTry (tries q))
   the-last = comes-to A (tries q) (tries-followed q)
 
-  last-found : (fault : Fault) → FirstUnusable q fault → findingOf (lastTry (tries q)) ≡ Unusable fault
+  last-found : (fault : DepthFault) → FirstUnusable q fault → findingOf (lastTry (tries q)) ≡ Unusable fault
   last-found fault u =
       let stops = still-stops (the-last .column) (sym (ap movesOn (the-last .line)) ∙ last-stops q) in
       let same = one-end A (the-last .column) (u .column) (the-last .comes) (u .reached) stops (fails-stops (u .column) fault (u .fails)) in
@@ -132,7 +132,7 @@ module _ (q : Stretch) where
   unfolding workDepth answerOf
   work-reasoned = answer-reasoned (findingOf (lastTry (tries q))) refl
 
-  pub reason-exactly : (fault : Fault) → (workDepth q ≡ NoCut fault) ↔ FirstUnusable q fault
+  pub reason-exactly : (fault : DepthFault) → (workDepth q ≡ NoCut fault) ↔ FirstUnusable q fault
   unfolding workDepth answerOf
   reason-exactly fault = (
     (λ e. subst (Reasoned q) e work-reasoned),
@@ -156,7 +156,7 @@ module _ (q : Stretch) where
   no-other r a n o = one-depth r (workDepth q) a (work-as-defined q) n (work-counted q) o work-reasoned
 
   -- "no depth" exactly when no cut meets the definition, and which of the three by the reason
-  three : (fault : Fault) → NoDepthNumber (faultNumber fault)
+  three : (fault : DepthFault) → NoDepthNumber (depthFaultNumber fault)
   three NoSquatEntry = inl refl
   three SiltOver = inr (inl refl)
   three CutOver = inr (inr refl)
@@ -173,7 +173,7 @@ module _ (q : Stretch) where
   pub no-depth-exactly : NoDepthNumber (depthNumber (workDepth q)) ↔ ((d : ℕ) → ¬ Meets q d)
   no-depth-exactly = no-depth-when (workDepth q) (work-as-defined q)
 
-  one-number : (f g : Fault) → faultNumber f ≡ faultNumber g → f ≡ g
+  one-number : (f g : DepthFault) → depthFaultNumber f ≡ depthFaultNumber g → f ≡ g
   one-number NoSquatEntry NoSquatEntry e = refl
   one-number NoSquatEntry SiltOver e = absurd (omega arith)
   one-number NoSquatEntry CutOver e = absurd (omega arith)
@@ -184,21 +184,21 @@ module _ (q : Stretch) where
   one-number CutOver SiltOver e = absurd (omega arith)
   one-number CutOver CutOver e = refl
 
-  numbered : (fault : Fault) (r : Depth) → depthNumber r ≡ faultNumber fault → r ≡ NoCut fault
+  numbered : (fault : DepthFault) (r : Depth) → depthNumber r ≡ depthFaultNumber fault → r ≡ NoCut fault
   numbered NoSquatEntry (Cut f) e = absurd (omega arith)
   numbered SiltOver (Cut f) e = absurd (omega arith)
   numbered CutOver (Cut f) e = absurd (omega arith)
   numbered fault (NoCut other) e = ap NoCut (one-number other fault e)
 
-  pub number-exactly : (fault : Fault) → (depthNumber (workDepth q) ≡ faultNumber fault) ↔ FirstUnusable q fault
+  pub number-exactly : (fault : DepthFault) → (depthNumber (workDepth q) ≡ depthFaultNumber fault) ↔ FirstUnusable q fault
   number-exactly fault = (
     (λ e. reason-exactly fault .0 (numbered fault (workDepth q) e)),
     (λ u. ap depthNumber (reason-exactly fault .1 u)),
   )
 
-  pub no-meeting : (fault : Fault) → FirstUnusable q fault → (d : ℕ) → ¬ Meets q d
+  pub no-meeting : (fault : DepthFault) → FirstUnusable q fault → (d : ℕ) → ¬ Meets q d
   no-meeting fault u = subst (AsDefined q) (reason-exactly fault .1 u) (work-as-defined q)
 
   -- the worksheet's last try shows it
-  pub last-shows : (fault : Fault) → workDepth q ≡ NoCut fault → findingOf (lastTry (tries q)) ≡ Unusable fault
+  pub last-shows : (fault : DepthFault) → workDepth q ≡ NoCut fault → findingOf (lastTry (tries q)) ≡ Unusable fault
   last-shows fault e = last-found fault (reason-exactly fault .0 e)

@@ -7,7 +7,7 @@ use Rattle.datum.specs.Datum.{below}
 use Rattle.lanes.specs.declared.Lanes.{Lanes}
 use Rattle.lanes.specs.declared.Lanes.the-variants.{One, Two}
 use Rattle.depth.specs.declared.Stretch.{Stretch}
-use Rattle.depth.specs.declared.Fault.the-variants.{NoSquatEntry}
+use Rattle.depth.specs.declared.DepthFault.the-variants.{NoSquatEntry}
 use Rattle.depth.specs.declared.Depth.{Depth}
 use Rattle.depth.specs.declared.Depth.the-variants.{Cut, NoCut}
 use Rattle.depth.specs.Squat.{squatEntry}

@@ -9,8 +9,8 @@ use Rattle.depth.specs.declared.Stretch.{Stretch}
 use Rattle.depth.specs.declared.Column.{Column}
 use Rattle.depth.specs.declared.Column.the-variants.{A, B, C}
 use Rattle.depth.specs.declared.DepthFigures.{DepthFigures}
-use Rattle.depth.specs.declared.Fault.{Fault}
-use Rattle.depth.specs.declared.Fault.the-variants.{NoSquatEntry, SiltOver, CutOver}
+use Rattle.depth.specs.declared.DepthFault.{DepthFault}
+use Rattle.depth.specs.declared.DepthFault.the-variants.{NoSquatEntry, SiltOver, CutOver}
 use Rattle.depth.specs.declared.Depth.{Depth}
 use Rattle.depth.specs.declared.Depth.the-variants.{Cut, NoCut}
 use Rattle.depth.specs.Squat.{none, squatOf}
@@ -91,10 +91,10 @@ pub record Ranges (f : DepthFigures) : Type 0 where
   pub columns-to : f .columns ≤ 3
 
 -- the number that turns a sheet away (section 8), 0 for none
-abbrev pub faultNumber : Fault → ℕ
-faultNumber NoSquatEntry = 13
-faultNumber SiltOver = 14
-faultNumber CutOver = 15
+abbrev pub depthFaultNumber : DepthFault → ℕ
+depthFaultNumber NoSquatEntry = 13
+depthFaultNumber SiltOver = 14
+depthFaultNumber CutOver = 15
 
 -- "no depth" is any of the three
 abbrev pub NoDepthNumber : ℕ → Type 0
@@ -102,4 +102,4 @@ NoDepthNumber number = (number ≡ 13) ⊎ ((number ≡ 14) ⊎ (number ≡ 15))
 
 abbrev pub depthNumber : Depth → ℕ
 depthNumber (Cut f) = 0
-depthNumber (NoCut fault) = faultNumber fault
+depthNumber (NoCut fault) = depthFaultNumber fault

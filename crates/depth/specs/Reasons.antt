@@ -4,8 +4,8 @@ use Prim.Native.Nat.{_≤_, _<_}
 use Rattle.depth.specs.declared.Stretch.{Stretch}
 use Rattle.depth.specs.declared.Column.{Column}
 use Rattle.depth.specs.declared.Column.the-variants.{A}
-use Rattle.depth.specs.declared.Fault.{Fault}
-use Rattle.depth.specs.declared.Fault.the-variants.{NoSquatEntry, SiltOver, CutOver}
+use Rattle.depth.specs.declared.DepthFault.{DepthFault}
+use Rattle.depth.specs.declared.DepthFault.the-variants.{NoSquatEntry, SiltOver, CutOver}
 use Rattle.depth.specs.declared.Depth.{Depth}
 use Rattle.depth.specs.declared.Depth.the-variants.{Cut, NoCut}
 use Rattle.depth.specs.Squat.{none}
@@ -19,7 +19,7 @@ pub record Usable (q : Stretch) (c : Column) : Type 0 where
   pub to : figure q c ≤ 3000
 
 -- a column that fails by a test, and by none before it
-abbrev pub Fails : Stretch → Column → Fault → Type 0
+abbrev pub Fails : Stretch → Column → DepthFault → Type 0
 Fails q c NoSquatEntry = none ≤ z3 q c
 Fails q c SiltOver = (z3 q c < none) × (120 < z4 q c)
 Fails q c CutOver = (z3 q c < none) × (z4 q c ≤ 120) × (3000 < figure q c)
@@ -30,7 +30,7 @@ pub data Comes (q : Stretch) : Column → Column → Type 0 where
   by-way-of : (c c' : Column) → Usable q c → ownColumn q (figure q c) ≢ c → Comes q (ownColumn q (figure q c)) c' → Comes q c c'
 
 -- the first column that the worksheet cannot use fails by a test: the columns before it moved on
-pub record FirstUnusable (q : Stretch) (fault : Fault) : Type 0 where
+pub record FirstUnusable (q : Stretch) (fault : DepthFault) : Type 0 where
   pub column : Column
   pub reached : Comes q A column
   pub fails : Fails q column fault

@@ -5,7 +5,7 @@ ghost use lib.ListN.{getD};
 ghost use Rattle.laws.specs.Rounding.{up};
 ghost use Rattle.depth.specs.Interval.{intervalOf};
 ghost use Rattle.depth.specs.Squat.{columnNumber, squatReading, squatOf};
-ghost use Rattle.depth.specs.Depth.{columnOf, sailingWith, siltTo, faultNumber};
+ghost use Rattle.depth.specs.Depth.{columnOf, sailingWith, siltTo, depthFaultNumber};
 ghost use Rattle.depth.specs.Worksheet.{reckoned, columnTry, blankTry, findingOf, movesOn, answerOf, worksheetOf, workDepth};
 use datum::BelowLevel;
 use lanes::Lanes;
@@ -46,7 +46,7 @@ pub struct Try {
 }
 
 // Why the worksheet cannot use a column: no entry in the squat table, silt over 120, a cut over 3,000, tested in this order.
-pub enum Fault {
+pub enum DepthFault {
     NoSquatEntry,
     SiltOver,
     CutOver,
@@ -56,7 +56,7 @@ pub enum Fault {
 pub enum Finding {
     Stays,
     Moves,
-    Unusable(Fault),
+    Unusable(DepthFault),
 }
 
 // The worksheet: its tries in order, `count` of them, then blank ones.
@@ -75,7 +75,7 @@ pub struct DepthFigures {
 // The depth of a stretch, or why the first column that its worksheet cannot use gives none.
 pub enum Depth {
     Cut(DepthFigures),
-    NoCut(Fault),
+    NoCut(DepthFault),
 }
 
 // The mark of no entry in the squat table: greater than every entry.
@@ -105,13 +105,13 @@ pub fn interval_of(code: u8) -> u16
 }
 
 // The number that turns a sheet away for a fault.
-pub fn fault_number(fault: Fault) -> u8
-    ensures { λ r. ⌜ r ≡ faultNumber fault ⌝ }
+pub fn depth_fault_number(fault: DepthFault) -> u8
+    ensures { λ r. ⌜ r ≡ depthFaultNumber fault ⌝ }
 {
     match fault {
-        Fault::NoSquatEntry => 13,
-        Fault::SiltOver => 14,
-        Fault::CutOver => 15,
+        DepthFault::NoSquatEntry => 13,
+        DepthFault::SiltOver => 14,
+        DepthFault::CutOver => 15,
     }
 }
 
@@ -248,13 +248,13 @@ fn finding_of(tried: Try) -> Finding
     ensures { λ r. ⌜ r ≡ findingOf tried ⌝ }
 {
     if NONE <= tried.squat {
-        return Finding::Unusable(Fault::NoSquatEntry);
+        return Finding::Unusable(DepthFault::NoSquatEntry);
     }
     if 120 < tried.silt {
-        return Finding::Unusable(Fault::SiltOver);
+        return Finding::Unusable(DepthFault::SiltOver);
     }
     if 3000 < tried.figure.0 {
-        return Finding::Unusable(Fault::CutOver);
+        return Finding::Unusable(DepthFault::CutOver);
     }
     let falls_in = tried.falls_in;
     let column = tried.column;
@@ -316,7 +316,7 @@ fn answer_of(last: Try, columns: u8) -> Depth
             columns,
         }),
         // no last try moves
-        Finding::Moves => Depth::NoCut(Fault::CutOver),
+        Finding::Moves => Depth::NoCut(DepthFault::CutOver),
         Finding::Unusable(fault) => Depth::NoCut(fault),
     }
 }

@@ -38,7 +38,7 @@ pub extern "C" fn trial_depth(figures: &[u32], place: &mut [u32]) -> u32 {
             store(&mut *place, 2, found.columns as u64);
             0
         }
-        Depth::NoCut(fault) => depth::fault_number(fault) as u32,
+        Depth::NoCut(fault) => depth::depth_fault_number(fault) as u32,
     }
 }
 

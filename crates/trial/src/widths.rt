@@ -4,26 +4,31 @@ use datum::AlongCurrent;
 use datum::BelowLevel;
 use datum::CrossCurrent;
 use width::Bend;
+use width::EntriesFound;
 use width::Items;
-use width::ItemsFound;
 use width::Stretch;
-use width::WidthFound;
+use width::WidthFault;
+
+fn entries_of(figures: &[u32]) -> EntriesFound {
+    let cross = CrossCurrent(places::small_at(figures, 6));
+    width::entries_of(
+        places::small_at(figures, 3),
+        places::small_at(figures, 2),
+        cross,
+        places::short_at(figures, 8),
+    )
+}
 
 fn stretch_of(figures: &[u32]) -> Stretch {
-    let cross = CrossCurrent(places::small_at(figures, 6));
     let along = AlongCurrent(places::small_at(figures, 7));
     let lanes = places::lanes_of(places::figure_at(figures, 15));
     let sailing = BelowLevel(places::short_at(figures, 16));
     Stretch {
         beam: places::short_at(figures, 0),
         draft: places::short_at(figures, 1),
-        speed: places::small_at(figures, 2),
-        water: places::small_at(figures, 3),
         handling: places::small_at(figures, 4),
         wind: places::small_at(figures, 5),
-        cross,
         along,
-        wave: places::short_at(figures, 8),
         aids: places::small_at(figures, 9),
         bottom: places::small_at(figures, 10),
         cargo: places::small_at(figures, 11),
@@ -63,13 +68,13 @@ fn store_items(place: &mut [u32], items: Items) {
 // The items into the place; 0, or 8.
 #[no_mangle]
 pub extern "C" fn trial_items(figures: &[u32], place: &mut [u32]) -> u32 {
-    let found = width::items_of(stretch_of(figures));
+    let found = entries_of(figures);
     match found {
-        ItemsFound::Listed(items) => {
-            store_items(place, items);
+        EntriesFound::Entered(entries) => {
+            store_items(place, width::items_of(stretch_of(figures), entries));
             0
         }
-        ItemsFound::NoEntry => 8,
+        EntriesFound::NoEntry => width::width_fault_number(WidthFault::NoWidthEntry) as u32,
     }
 }
 
@@ -79,15 +84,16 @@ pub extern "C" fn trial_width(figures: &[u32], place: &mut [u32]) -> u32 {
     let stretch = stretch_of(figures);
     let lanes = stretch.lanes;
     let sailing = stretch.sailing;
-    let answer = width::width_of(stretch);
-    match answer {
-        WidthFound::Found(cm) => {
+    let found = entries_of(figures);
+    match found {
+        EntriesFound::Entered(entries) => {
+            let cm = width::width_of(stretch, entries);
             places::put(&mut *place, 0, cm);
             places::put(&mut *place, 1, class::width_class(cm, lanes) as u32);
             places::put(&mut *place, 2, class::depth_class(sailing) as u32);
             0
         }
-        WidthFound::NoEntry => 8,
+        EntriesFound::NoEntry => width::width_fault_number(WidthFault::NoWidthEntry) as u32,
     }
 }
 
@@ -112,6 +118,6 @@ pub extern "C" fn trial_bend(figures: &[u32], place: &mut [u32]) -> u32 {
             places::put(&mut *place, 0, cm);
             0
         }
-        Bend::TooTight => 7,
+        Bend::TooTight => width::width_fault_number(WidthFault::BendTooTight) as u32,
     }
 }

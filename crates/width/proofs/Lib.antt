@@ -1,9 +1,9 @@
 pub mod Banks
-pub mod Entries
+pub mod Entering
 pub mod Totals
 pub mod Curves
-pub mod Sizes
 pub mod Growth
+pub mod Refusals
 pub mod Meaning
 pub mod Cases
 pub mod Promises

@@ -1,6 +1,5 @@
 -- Waters and speed bands, and the bands of currents and waves (sections 5.1 and 5.2).
 use Prim.Native.Nat.{ℕ}
-use mathlib.Core.Bool.{Bool, true, false, _&&_}
 use Rattle.laws.specs.Choice.{if_then_else_, _≤ᵇ_, _<ᵇ_, _=ᵇ_}
 use Rattle.datum.specs.declared.CrossCurrent.{CrossCurrent}
 use Rattle.datum.specs.declared.AlongCurrent.{AlongCurrent}
@@ -10,6 +9,8 @@ use Rattle.width.specs.declared.SpeedBand.{SpeedBand}
 use Rattle.width.specs.declared.SpeedBand.the-variants.{Moderate, Slow}
 use Rattle.width.specs.declared.Entry.{Entry}
 use Rattle.width.specs.declared.Entry.the-variants.{Tenths, Blank}
+use Rattle.width.specs.declared.EntriesFound.{EntriesFound}
+use Rattle.width.specs.declared.EntriesFound.the-variants.{Entered, NoEntry}
 
 -- field 14: 1 is sheltered; any other number, of which a sheet has only 0, is open
 unfoldable pub waterOf : ℕ → Water
@@ -50,12 +51,14 @@ waveEntry water band wave =
     (if wave ≤ᵇ 300 then (by water in-open (Tenths (for band moderate 10 slow 5)) in-sheltered Blank) else
     (by water in-open (Tenths (for band moderate 22 slow 15)) in-sheltered Blank))
 
--- an entry that is one
-abbrev pub hasEntry : Entry → Bool
-hasEntry (Tenths n) = true
-hasEntry Blank = false
+-- both entries are needed: the cross current's and the wave's
+abbrev pub entriesBy : Water → SpeedBand → Entry → Entry → EntriesFound
+entriesBy water band (Tenths cross) (Tenths wave) = Entered (record { water = water; band = band; cross = cross; wave = wave })
+entriesBy water band (Tenths cross) Blank = NoEntry
+entriesBy water band Blank wave = NoEntry
 
--- whether the cross current and the wave have entries
-unfoldable pub hasEntries : ℕ → ℕ → CrossCurrent → ℕ → Bool
-hasEntries water speed cross wave =
-    hasEntry (crossEntry (waterOf water) (speedBandOf speed) cross) && hasEntry (waveEntry (waterOf water) (speedBandOf speed) wave)
+abbrev pub entriesIn : Water → SpeedBand → CrossCurrent → ℕ → EntriesFound
+entriesIn water band cross wave = entriesBy water band (crossEntry water band cross) (waveEntry water band wave)
+
+unfoldable pub entriesOf : ℕ → ℕ → CrossCurrent → ℕ → EntriesFound
+entriesOf water speed cross wave = entriesIn (waterOf water) (speedBandOf speed) cross wave

@@ -1,5 +1,4 @@
 -- Bends: the least radius and the widening (section 6).
-use mathlib.Core.Path.{_≡_}
 use Prim.Native.Nat.{ℕ, _*_, _<_, _≤_}
 use Rattle.laws.specs.Choice.{if_then_else_, _<ᵇ_, _=ᵇ_}
 use Rattle.laws.specs.Rounding.{up}
@@ -25,11 +24,6 @@ bendOf turn radius length knots lanes =
     (if 100 * radius <ᵇ leastLengths turn * length then TooTight else
     (if 100 * radius <ᵇ 10 * length then Widening (wideningOf turn radius length knots lanes) else Widening 0))
 
--- the number (section 8) of each answer
-abbrev pub bendNumber : Bend → ℕ
-bendNumber (Widening cm) = 0
-bendNumber TooTight = 7
-
 -- its figure: the widening in cm, 0 when refused
 abbrev pub wideningFigure : Bend → ℕ
 wideningFigure (Widening cm) = cm
@@ -39,8 +33,3 @@ wideningFigure TooTight = 0
 pub record LongEnough (radius length : ℕ) : Type 0 where
   pub some : 0 < radius
   pub three : 3 * length ≤ 100 * radius
-
--- the row of section 8: 7, bend too tight, which is a turn with a radius under the least
-pub record TightBend (turn radius length : ℕ) : Type 0 where
-  pub bent : turn ≡ 0 → ⊥
-  pub under : 100 * radius < leastLengths turn * length

@@ -3,4 +3,6 @@ pub mod Bands
 pub mod Additions
 pub mod Width
 pub mod Bends
+pub mod Refusals
 pub mod Comparing
+pub mod Starred

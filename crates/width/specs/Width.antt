@@ -3,48 +3,31 @@ use Prim.Native.Nat.{ℕ, _+_, _*_}
 use Rattle.laws.specs.Rounding.{up}
 use Rattle.lanes.specs.declared.Lanes.{Lanes}
 use Rattle.lanes.specs.declared.Lanes.the-variants.{One, Two}
-use Rattle.width.specs.declared.Water.{Water}
-use Rattle.width.specs.declared.SpeedBand.{SpeedBand}
-use Rattle.width.specs.declared.Entry.{Entry}
-use Rattle.width.specs.declared.Entry.the-variants.{Tenths, Blank}
 use Rattle.width.specs.declared.Stretch.{Stretch}
+use Rattle.width.specs.declared.Entries.{Entries}
+use Rattle.width.specs.declared.EntriesFound.{EntriesFound}
+use Rattle.width.specs.declared.EntriesFound.the-variants.{Entered, NoEntry}
 use Rattle.width.specs.declared.Items.{Items}
-use Rattle.width.specs.declared.ItemsFound.{ItemsFound}
-use Rattle.width.specs.declared.ItemsFound.the-variants.{Listed, NoEntry as NoItems}
-use Rattle.width.specs.declared.WidthFound.{WidthFound}
-use Rattle.width.specs.declared.WidthFound.the-variants.{Found, NoEntry}
-use Rattle.width.specs.Bands.{waterOf, speedBandOf, crossEntry, alongItem, waveEntry}
+use Rattle.width.specs.Bands.{alongItem}
 use Rattle.width.specs.Additions.{laneItem, windItem, aidsItem, bedItem, depthItem, cargoItem, banksItem, passingItem, trafficItem}
 
--- the items of a stretch in its water and at its speed, with the entries of its cross current and its wave
-abbrev pub itemsWith : Stretch → Water → SpeedBand → ℕ → ℕ → Items
-itemsWith stretch water band cross wave =
+-- the items of a stretch, with its entries
+unfoldable pub itemsOf : Stretch → Entries → Items
+itemsOf stretch entries =
     record {
       lane = laneItem (stretch .handling);
-      wind = windItem band (stretch .wind);
-      cross = cross;
-      along = alongItem band (stretch .along);
-      wave = wave;
+      wind = windItem (entries .band) (stretch .wind);
+      cross = entries .cross;
+      along = alongItem (entries .band) (stretch .along);
+      wave = entries .wave;
       aids = aidsItem (stretch .aids);
       bed = bedItem (stretch .draft) (stretch .sailing) (stretch .bottom);
-      depth = depthItem water (stretch .draft) (stretch .sailing);
-      cargo = cargoItem water (stretch .cargo);
-      banks = banksItem band (stretch .left) (stretch .right);
-      passing = passingItem water band;
-      traffic = trafficItem water (stretch .ships);
+      depth = depthItem (entries .water) (stretch .draft) (stretch .sailing);
+      cargo = cargoItem (entries .water) (stretch .cargo);
+      banks = banksItem (entries .band) (stretch .left) (stretch .right);
+      passing = passingItem (entries .water) (entries .band);
+      traffic = trafficItem (entries .water) (stretch .ships);
     }
-
--- both entries are needed
-abbrev pub itemsAt : Stretch → Water → SpeedBand → Entry → Entry → ItemsFound
-itemsAt stretch water band (Tenths cross) (Tenths wave) = Listed (itemsWith stretch water band cross wave)
-itemsAt stretch water band (Tenths cross) Blank = NoItems
-itemsAt stretch water band Blank wave = NoItems
-
-unfoldable pub itemsOf : Stretch → ItemsFound
-itemsOf stretch =
-    itemsAt stretch (waterOf (stretch .water)) (speedBandOf (stretch .speed))
-    (crossEntry (waterOf (stretch .water)) (speedBandOf (stretch .speed)) (stretch .cross))
-    (waveEntry (waterOf (stretch .water)) (speedBandOf (stretch .speed)) (stretch .wave))
 
 -- the lane and the added W
 abbrev pub laneAndAdded : Items → ℕ
@@ -56,19 +39,10 @@ tenthsOf One i = laneAndAdded i + i .banks
 tenthsOf Two i = 2 * laneAndAdded i + i .banks + i .passing + i .traffic
 
 -- times beam / 10, rounded up once
-abbrev pub widthFrom : Stretch → ItemsFound → WidthFound
-widthFrom stretch (Listed items) = Found (up (tenthsOf (stretch .lanes) items * stretch .beam) 10)
-widthFrom stretch NoItems = NoEntry
+unfoldable pub widthOf : Stretch → Entries → ℕ
+widthOf stretch entries = up (tenthsOf (stretch .lanes) (itemsOf stretch entries) * stretch .beam) 10
 
-unfoldable pub widthOf : Stretch → WidthFound
-widthOf stretch = widthFrom stretch (itemsOf stretch)
-
--- the number (section 8) of each answer
-abbrev pub widthNumber : WidthFound → ℕ
-widthNumber (Found cm) = 0
-widthNumber NoEntry = 8
-
--- its figure: the width in cm, 0 when refused
-abbrev pub widthFigure : WidthFound → ℕ
-widthFigure (Found cm) = cm
-widthFigure NoEntry = 0
+-- the figure of a stretch by the entries that it has or has not: its width in cm, 0 when refused
+abbrev pub widthFigure : Stretch → EntriesFound → ℕ
+widthFigure stretch (Entered entries) = widthOf stretch entries
+widthFigure stretch NoEntry = 0

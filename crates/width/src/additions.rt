@@ -2,12 +2,8 @@
 ghost use mathlib.Core.Path.{_≡_};
 ghost use Rattle.width.specs.Bands.{for_moderate_slow_};
 ghost use Rattle.width.specs.Additions.{laneItem, windItem, aidsItem, bedItem, depthItem, cargoItem, bankItem, banksItem, passingItem, trafficItem};
-ghost use Rattle.width.specs.Width.{itemsWith};
-use crate::Items;
 use crate::SpeedBand;
-use crate::Stretch;
 use crate::Water;
-use crate::bands::along_item;
 use crate::bands::watered;
 use datum::BelowLevel;
 
@@ -21,7 +17,7 @@ fn paced(band: SpeedBand, faster: u8, slower: u8) -> u8
     }
 }
 
-fn lane_item(handling: u8) -> u8
+pub fn lane_item(handling: u8) -> u8
     ensures { λ r. ⌜ r ≡ laneItem handling ⌝ }
 {
     if handling == 0 {
@@ -33,7 +29,7 @@ fn lane_item(handling: u8) -> u8
     18
 }
 
-fn wind_item(band: SpeedBand, wind: u8) -> u8
+pub fn wind_item(band: SpeedBand, wind: u8) -> u8
     ensures { λ r. ⌜ r ≡ windItem band wind ⌝ }
 {
     if wind < 15 {
@@ -45,7 +41,7 @@ fn wind_item(band: SpeedBand, wind: u8) -> u8
     paced(band, 8, 10)
 }
 
-fn aids_item(aids: u8) -> u8
+pub fn aids_item(aids: u8) -> u8
     ensures { λ r. ⌜ r ≡ aidsItem aids ⌝ }
 {
     if aids == 0 {
@@ -60,7 +56,7 @@ fn aids_item(aids: u8) -> u8
     5
 }
 
-fn bed_item(draft: u16, sailing: BelowLevel, bottom: u8) -> u8
+pub fn bed_item(draft: u16, sailing: BelowLevel, bottom: u8) -> u8
     ensures { λ r. ⌜ r ≡ bedItem draft sailing bottom ⌝ }
 {
     if 3 * (draft as u32) <= 2 * (sailing.0 as u32) {
@@ -75,7 +71,7 @@ fn bed_item(draft: u16, sailing: BelowLevel, bottom: u8) -> u8
     2
 }
 
-fn depth_item(water: Water, draft: u16, sailing: BelowLevel) -> u8
+pub fn depth_item(water: Water, draft: u16, sailing: BelowLevel) -> u8
     ensures { λ r. ⌜ r ≡ depthItem water draft sailing ⌝ }
 {
     let ship = draft as u32;
@@ -99,7 +95,7 @@ fn depth_item(water: Water, draft: u16, sailing: BelowLevel) -> u8
     }
 }
 
-fn cargo_item(water: Water, cargo: u8) -> u8
+pub fn cargo_item(water: Water, cargo: u8) -> u8
     ensures { λ r. ⌜ r ≡ cargoItem water cargo ⌝ }
 {
     if cargo == 0 {
@@ -120,19 +116,19 @@ fn bank_item(band: SpeedBand, bank: u8) -> u8
     paced(band, 10, 5)
 }
 
-fn banks_item(band: SpeedBand, left: u8, right: u8) -> u8
+pub fn banks_item(band: SpeedBand, left: u8, right: u8) -> u8
     ensures { λ r. ⌜ r ≡ banksItem band left right ⌝ }
 {
     bank_item(band, left) + bank_item(band, right)
 }
 
-fn passing_item(water: Water, band: SpeedBand) -> u8
+pub fn passing_item(water: Water, band: SpeedBand) -> u8
     ensures { λ r. ⌜ r ≡ passingItem water band ⌝ }
 {
     watered(water, paced(band, 16, 12), paced(band, 14, 10))
 }
 
-fn traffic_item(water: Water, ships: u16) -> u8
+pub fn traffic_item(water: Water, ships: u16) -> u8
     ensures { λ r. ⌜ r ≡ trafficItem water ships ⌝ }
 {
     if ships <= 2400 {
@@ -142,24 +138,4 @@ fn traffic_item(water: Water, ships: u16) -> u8
         return 2;
     }
     watered(water, 5, 4)
-}
-
-// The items of a stretch whose current and wave have the given entries.
-pub fn listed(stretch: Stretch, water: Water, band: SpeedBand, cross: u8, wave: u8) -> Items
-    ensures { λ r. ⌜ r ≡ itemsWith stretch water band cross wave ⌝ }
-{
-    Items {
-        lane: lane_item(stretch.handling),
-        wind: wind_item(band, stretch.wind),
-        cross,
-        along: along_item(band, stretch.along),
-        wave,
-        aids: aids_item(stretch.aids),
-        bed: bed_item(stretch.draft, stretch.sailing, stretch.bottom),
-        depth: depth_item(water, stretch.draft, stretch.sailing),
-        cargo: cargo_item(water, stretch.cargo),
-        banks: banks_item(band, stretch.left, stretch.right),
-        passing: passing_item(water, band),
-        traffic: traffic_item(water, stretch.ships),
-    }
 }

@@ -1,7 +1,9 @@
 // The width of a stretch, in tenths of the beam, and its bends (definition, sections 5 and 6).
 ghost use mathlib.Core.Path.{_≡_};
-ghost use Rattle.width.specs.Bands.{waterOf, speedBandOf, hasEntries};
-ghost use Rattle.width.specs.Bends.{bendOf};
+ghost use Prim.Native.Nat.{_<_, _^_};
+ghost use Rattle.width.specs.Bands.{waterOf, speedBandOf, entriesOf};
+ghost use Rattle.width.specs.Bends.{bendOf, wideningFigure};
+ghost use Rattle.width.specs.Refusals.{widthFaultNumber};
 ghost use Rattle.width.specs.Width.{itemsOf, tenthsOf, widthOf, laneAndAdded};
 use datum::AlongCurrent;
 use datum::BelowLevel;
@@ -30,17 +32,27 @@ pub enum Entry {
     Blank,
 }
 
-// What the width of a stretch is worked from: the sheet's fields under the sheet's names, its lanes and its sailing depth s.
+// What the tables of bands give before the depth is known: the water, the speed band, and the tenths of cross current and wave.
+pub struct Entries {
+    pub water: Water,
+    pub band: SpeedBand,
+    pub cross: u8,
+    pub wave: u8,
+}
+
+// The entries of a stretch, or that its cross current or wave has none.
+pub enum EntriesFound {
+    Entered(Entries),
+    NoEntry,
+}
+
+// What else the width of a stretch is worked from: the sheet's fields under the sheet's names, its lanes and its sailing depth s.
 pub struct Stretch {
     pub beam: u16,
     pub draft: u16,
-    pub speed: u8,
-    pub water: u8,
     pub handling: u8,
     pub wind: u8,
-    pub cross: CrossCurrent,
     pub along: AlongCurrent,
-    pub wave: u16,
     pub aids: u8,
     pub bottom: u8,
     pub cargo: u8,
@@ -67,22 +79,26 @@ pub struct Items {
     pub traffic: u8,
 }
 
-// The items of a stretch, or that its current or wave has no entry.
-pub enum ItemsFound {
-    Listed(Items),
-    NoEntry,
-}
-
-// The width of a stretch in cm, without widening, or that it has no entry.
-pub enum WidthFound {
-    Found(u32),
-    NoEntry,
-}
-
 // What a bend asks for: a widening in cm, 0 for a straight and a wide bend, or a greater radius.
 pub enum Bend {
     Widening(u32),
     TooTight,
+}
+
+// Why a stretch has no width: its bend is too tight, or its cross current or wave has no entry.
+pub enum WidthFault {
+    BendTooTight,
+    NoWidthEntry,
+}
+
+// The number that turns a sheet away for a fault.
+pub fn width_fault_number(fault: WidthFault) -> u8
+    ensures { λ r. ⌜ r ≡ widthFaultNumber fault ⌝ }
+{
+    match fault {
+        WidthFault::BendTooTight => 7,
+        WidthFault::NoWidthEntry => 8,
+    }
 }
 
 fn water_of(water: u8) -> Water
@@ -105,59 +121,61 @@ fn speed_band_of(speed: u8) -> SpeedBand
     }
 }
 
-// Whether the current and the wave have entries, which is known before the depth is.
-pub fn has_entries(water: u8, speed: u8, cross: CrossCurrent, wave: u16) -> bool
-    ensures { λ r. ⌜ r ≡ hasEntries water speed cross wave ⌝ }
+// The entries of the cross current and the wave, which are known before the depth is.
+pub fn entries_of(water: u8, speed: u8, cross: CrossCurrent, wave: u16) -> EntriesFound
+    ensures { λ r. ⌜ r ≡ entriesOf water speed cross wave ⌝ }
 {
     let column = water_of(water);
     let band = speed_band_of(speed);
     let current = bands::cross_entry(column, band, cross);
     let height = bands::wave_entry(column, band, wave);
     match current {
-        Entry::Blank => false,
-        Entry::Tenths(_) => match height {
-            Entry::Blank => false,
-            Entry::Tenths(_) => true,
-        },
-    }
-}
-
-// The items of a stretch, each by itself.
-pub fn items_of(stretch: Stretch) -> ItemsFound
-    ensures { λ r. ⌜ r ≡ itemsOf stretch ⌝ }
-{
-    let water = water_of(stretch.water);
-    let band = speed_band_of(stretch.speed);
-    let cross = bands::cross_entry(water, band, stretch.cross);
-    let wave = bands::wave_entry(water, band, stretch.wave);
-    match cross {
-        Entry::Blank => ItemsFound::NoEntry,
-        Entry::Tenths(current) => match wave {
-            Entry::Blank => ItemsFound::NoEntry,
-            Entry::Tenths(height) => ItemsFound::Listed(additions::listed(
-                stretch,
-                water,
+        Entry::Blank => EntriesFound::NoEntry,
+        Entry::Tenths(across) => match height {
+            Entry::Blank => EntriesFound::NoEntry,
+            Entry::Tenths(high) => EntriesFound::Entered(Entries {
+                water: column,
                 band,
-                current,
-                height,
-            )),
+                cross: across,
+                wave: high,
+            }),
         },
     }
 }
 
-// The width of a stretch: its tenths of the beam, rounded up once.
-pub fn width_of(stretch: Stretch) -> WidthFound
-    ensures { λ r. ⌜ r ≡ widthOf stretch ⌝ }
+// The items of a stretch with its entries, each by itself.
+pub fn items_of(stretch: Stretch, entries: Entries) -> Items
+    ensures { λ r. ⌜ r ≡ itemsOf stretch entries ⌝ }
 {
-    let found = items_of(stretch);
-    match found {
-        ItemsFound::NoEntry => WidthFound::NoEntry,
-        ItemsFound::Listed(items) => {
-            let lanes = stretch.lanes;
-            let tenths = tenths_of(items, lanes);
-            WidthFound::Found((tenths as u32 * stretch.beam as u32 + 9) / 10)
-        }
+    let water = entries.water;
+    let band = entries.band;
+    let along = stretch.along;
+    let sailing = stretch.sailing;
+    Items {
+        lane: additions::lane_item(stretch.handling),
+        wind: additions::wind_item(band, stretch.wind),
+        cross: entries.cross,
+        along: bands::along_item(band, along),
+        wave: entries.wave,
+        aids: additions::aids_item(stretch.aids),
+        bed: additions::bed_item(stretch.draft, sailing, stretch.bottom),
+        depth: additions::depth_item(water, stretch.draft, sailing),
+        cargo: additions::cargo_item(water, stretch.cargo),
+        banks: additions::banks_item(band, stretch.left, stretch.right),
+        passing: additions::passing_item(water, band),
+        traffic: additions::traffic_item(water, stretch.ships),
     }
+}
+
+// The width of a stretch with its entries, in cm: its tenths of the beam, rounded up once.
+pub fn width_of(stretch: Stretch, entries: Entries) -> u32
+    ensures { λ r. ⌜ r ≡ widthOf stretch entries ⌝ }
+    ensures small { λ r. ⌜ r < 2 ^ 31 ⌝ }
+{
+    let items = items_of(stretch, entries);
+    let lanes = stretch.lanes;
+    let tenths = tenths_of(items, lanes);
+    (tenths as u32 * stretch.beam as u32 + 9) / 10
 }
 
 // The tenths of the beam that the items come to.
@@ -189,6 +207,7 @@ fn lane_and_added(items: Items) -> u16
 // What a bend of a turn in degrees and a radius in m asks for, by the ship's length in cm, its speed and the lanes.
 pub fn bend_of(turn: u8, radius: u16, length: u16, knots: u8, lanes: Lanes) -> Bend
     ensures { λ r. ⌜ r ≡ bendOf turn radius length knots lanes ⌝ }
+    ensures small { λ r. ⌜ wideningFigure r < 2 ^ 31 ⌝ }
 {
     if turn == 0 {
         return Bend::Widening(0);
