@@ -1,5 +1,5 @@
 -- The answer: its numbers, its figures, and each way out of the checks that leads to it.
-mod Numbers
-mod Held
-mod Figures
-mod Ways
+pub mod Numbers
+pub mod Held
+pub mod Figures
+pub mod Ways

@@ -1,5 +1,5 @@
 -- The rows of section 8: what each room tells of its own, the checks in their order, and what the code then says.
-mod Rooms
-mod Checked
-mod Readings
-mod Exactly
+pub mod Rooms
+pub mod Checked
+pub mod Readings
+pub mod Exactly

@@ -8,7 +8,6 @@ ghost use Rattle.laws.specs.Choice.{_≤ᵇ_};
 ghost use Rattle.design.specs.Numbers.{numberCount};
 ghost use Rattle.lines.specs.Decimals.{digits, countText, numberText};
 ghost use Rattle.lines.specs.Lines.{lineBytes, spaced, lineText, sheetLine, levelsLine, routeLine, placeAfter, bufferAfter, Put};
-
 use design::COUNT;
 
 // The counts of a line that begins with a letter.

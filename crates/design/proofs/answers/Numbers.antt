@@ -53,7 +53,7 @@ module _ (bytes table : List ℕ) where
 
   pub code-never : (a : Answer) (number : ℕ) → 1 ≤ number → T (absent number (rows bytes table)) → codeOf a ≢ number
   code-never (Answered f) number some none e = omega arith
-  code-never (Refused r) number some none = present-other (reasonNumber r) number (rows bytes table) (reason-present bytes table r) none
+  code-never (Refused r) number some none e = present-other (reasonNumber r) number (rows bytes table) (reason-present bytes table r) none e
 
 -- the field is 0 unless the number is 3
 field-zero : (r : Reason) → reasonNumber r ≢ 3 → reasonField r ≡ 0

@@ -1,5 +1,5 @@
 -- Where only beam, wind, currents and wave are moved, the depth is worked from the same figures, and the width is that of a harder stretch.
-use mathlib.Core.Path.{_≡_, refl, sym, ap, ap₂, subst, _∙_}
+use mathlib.Core.Path.{_≡_, refl, sym, ap, ap₂, subst, subst⁻¹, _∙_}
 use mathlib.Core.List.{List}
 use Prim.Native.Nat.{ℕ, _≤_}
 use lib.Dec.{le→leb}
@@ -101,10 +101,12 @@ module _ (easy hard table : List ℕ) (lanes : lanesFor (sheetIn easy) ≡ lanes
     figures-rise : entriesNumber found' ≡ 0 → widthFigure w found ≤ widthFigure w' found'
     unfolding sheetOf
     figures-rise has =
-        let water = c .same 14 refl in
-        let speed = c .same 5 refl in
-        let s = sheetIn hard in
-        rw (water, speed) (figure-rises w w' _ _ (never-narrower w w' (s .water) (s .speed) _ _ _ _ width-harder (c .rises 17 refl) (c .rises 19 refl)) has)
+        let s = sheetIn easy in
+        let s' = sheetIn hard in
+        subst⁻¹ (λ (n : ℕ). n ≤ widthFigure w' found')
+        (ap₂ (λ (water speed : ℕ). widthFigure w (entriesOf water speed (s .cross) (s .wave))) (c .same 14 refl) (c .same 5 refl))
+        (figure-rises w w' _ _
+        (never-narrower w w' (s' .water) (s' .speed) (s .cross) (s' .cross) (s .wave) (s' .wave) width-harder (c .rises 17 refl) (c .rises 19 refl)) has)
 
     pub width-rises : ¬ EntryMissing (sheetIn hard) → width f ≤ℤ width g
     width-rises there =

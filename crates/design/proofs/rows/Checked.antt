@@ -1,5 +1,5 @@
 -- The rows lead to the answer of a design: from the last room to the first, each tells of its own rows and hands on what it found.
-use mathlib.Core.Path.{_≡_, refl, sym, ap, subst, subst⁻¹, _∙_}
+use mathlib.Core.Path.{_≡_, refl, sym, ap, subst⁻¹}
 use mathlib.Core.List.{List, []}
 use Prim.Native.Nat.{ℕ}
 use lib.IntN.{pos}

@@ -5,11 +5,6 @@ use Rattle.datum.proofs.Signs.{level-fits, level-back}
 use borrow.Author.Needs.{needs}
 use Rattle.design.proofs.numbering.level_number.Statement.{statement}
 use Rattle.design.proofs.numbering.level_number.Tie as tie
-use Rattle.design.proofs.numbering.level_number.Reads as reads
-use Rattle.design.proofs.numbering.level_number.Lts as lts
-
-cast-result : tie.Need-cast-result
-cast-result c = search needs
 
 sub-result : tie.Need-sub-result
 sub-result c = level-fits w32 (c .before .args .level .0) (omega arith)
@@ -18,4 +13,4 @@ returns : tie.Need-returns
 returns c = level-back w32 (c .before .args .level .0) (omega arith)
 
 pub level-number-spec : {M : Type 1} → statement M
-level-number-spec = tie.close (tie.spec cast-result sub-result returns)
+level-number-spec = tie.close (tie.spec (λ c. search needs) sub-result returns)

@@ -5,14 +5,9 @@ use mir.Facts.{toZ-pos}
 use borrow.Author.Needs.{needs}
 use Rattle.design.proofs.numbering.small_number.Statement.{statement}
 use Rattle.design.proofs.numbering.small_number.Tie as tie
-use Rattle.design.proofs.numbering.small_number.Reads as reads
-use Rattle.design.proofs.numbering.small_number.Lts as lts
-
-cast-result : tie.Need-cast-result
-cast-result c = search needs
 
 returns : tie.Need-returns
 returns c = toZ-pos w32 (omega arith)
 
 pub small-number-spec : {M : Type 1} → statement M
-small-number-spec = tie.close (tie.spec cast-result returns)
+small-number-spec = tie.close (tie.spec (λ c. search needs) returns)

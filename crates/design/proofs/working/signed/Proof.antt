@@ -4,14 +4,9 @@ use mir.Facts.{toZ-pos}
 use borrow.Author.Needs.{needs}
 use Rattle.design.proofs.working.signed.Statement.{statement}
 use Rattle.design.proofs.working.signed.Tie as tie
-use Rattle.design.proofs.working.signed.Reads as reads
-use Rattle.design.proofs.working.signed.Lts as lts
-
-cast-result : tie.Need-cast-result
-cast-result c = search needs
 
 returns : tie.Need-returns
 returns c = toZ-pos w32 (c .pre)
 
 pub signed-spec : {M : Type 1} → statement M
-signed-spec = tie.close (tie.spec cast-result returns)
+signed-spec = tie.close (tie.spec (λ c. search needs) returns)
