@@ -5,6 +5,7 @@ pub mod Frequencies
 pub mod Walks
 pub mod Levels
 pub mod Machine
+pub mod Bands
 pub mod Designing
 pub mod Meaning
 pub mod Additions
