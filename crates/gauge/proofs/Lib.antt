@@ -1,14 +1,6 @@
-pub mod Never
-pub mod Sums
-pub mod LevelSlots
-pub mod Frequencies
-pub mod Walks
-pub mod Levels
-pub mod Machine
-pub mod Designing
-pub mod Meaning
-pub mod Additions
-pub mod OneReading
-pub mod Files
+mod Never
+mod table
+mod adding
+mod designing
 pub mod Refusals
 pub mod Promises

@@ -1,5 +1,4 @@
 -- What follows where two constructors would be equal: anything.
--- Assumes nothing.
 use mathlib.Core.Path.{_≡_}
 use Prim.Native.Nat.{ℕ}
 use native.Mathlib.Omega.{arith}

@@ -1,0 +1,6 @@
+-- The levels of frequencies and the design level: the walks that find them, the ways out, and what they mean.
+pub mod Frequencies
+pub mod Walks
+pub mod Bands
+pub mod WaysOut
+pub mod Meaning
