@@ -9,6 +9,7 @@ pub mod Following
 pub mod Easier
 pub mod LeastCut
 pub mod Reasons
+pub mod Refusals
 pub mod Demand
 pub mod Starred
 pub mod Promises

@@ -1,11 +1,11 @@
 -- What the depth promises, in the definition's order. Each proof cites the one that does the work.
--- Assumes nothing.
 use mathlib.Core.Path.{_≡_, ap, _∙_}
 use mathlib.Core.Logic.{_↔_}
 use mathlib.Core.List.{List, map}
 use Prim.Native.Nat.{ℕ, _-_, _≤_}
 use native.Mathlib.Omega.{arith}
 use lib.ListN.{length, getD}
+use Rattle.laws.specs.Rows.{Exactly}
 use Rattle.laws.proofs.Unique.{one-answer}
 use Rattle.lanes.specs.declared.Lanes.{Lanes}
 use Rattle.depth.specs.declared.Stretch.{Stretch}
@@ -22,7 +22,7 @@ use Rattle.depth.specs.Interval.{intervalOf}
 use Rattle.depth.specs.Squat.{columnNumber, squatReading, squatOf}
 use Rattle.depth.specs.Depth.{Meets, AsDefined, Ranges, depthFaultNumber, depthNumber, NoDepthNumber}
 use Rattle.depth.specs.Worksheet.{columnTry, blankTry, findingOf, tries, worksheetOf, answerOf, workDepth, Forward, Followed, Counted}
-use Rattle.depth.specs.Reasons.{FirstUnusable, Reasoned}
+use Rattle.depth.specs.Reasons.{FirstUnusable, Reasoned, depthRows}
 use Rattle.depth.specs.Harder.{Harder, Deeper, NeverCured}
 use Rattle.depth.proofs.Squat.{lanes-columns-speeds}
 use Rattle.depth.proofs.Tries.{tries-count}
@@ -30,6 +30,7 @@ use Rattle.depth.proofs.Filled.{work-of-last, last-line-is}
 use Rattle.depth.proofs.Following.{one-following}
 use Rattle.depth.proofs.LeastCut as least-cut
 use Rattle.depth.proofs.Reasons as reasons
+use Rattle.depth.proofs.Refusals.{depth-exactly}
 use Rattle.depth.proofs.Demand.{work-deeper, work-never-cured, meets-too}
 use Rattle.depth.proofs.Starred as the-starred
 
@@ -50,6 +51,10 @@ no-other-depth = reasons.no-other
 -- and by none before it.
 pub number-exactly : (q : Stretch) (fault : DepthFault) → (depthNumber (workDepth q) ≡ depthFaultNumber fault) ↔ FirstUnusable q fault
 number-exactly = reasons.number-exactly
+
+-- So a number is given exactly when its row holds and none checked before it does, and every other depth is answered.
+pub numbers-in-order : (q : Stretch) → Exactly (depthRows q) (depthNumber (workDepth q))
+numbers-in-order = depth-exactly
 
 -- A stretch with a first column that the worksheet cannot use has no cut as defined.
 pub unusable-none : (q : Stretch) (fault : DepthFault) → FirstUnusable q fault → (d : ℕ) → Meets q d → ⊥
