@@ -11,5 +11,5 @@ pub mod LeastCut
 pub mod Reasons
 pub mod Refusals
 pub mod Demand
-pub mod Starred
+pub mod Cases
 pub mod Promises

@@ -24,6 +24,7 @@ use Rattle.depth.specs.Depth.{Meets, AsDefined, Ranges, depthFaultNumber
 use Rattle.depth.specs.Worksheet.{columnTry, blankTry, findingOf, tries, worksheetOf, answerOf, workDepth, Forward, Followed, Counted}
 use Rattle.depth.specs.Reasons.{FirstUnusable, Reasoned, depthRows}
 use Rattle.depth.specs.Harder.{Harder, Deeper, NeverCured}
+use Rattle.depth.specs.Starred.{cases, figures}
 use Rattle.depth.proofs.Squat.{lanes-columns-speeds}
 use Rattle.depth.proofs.Tries.{tries-count}
 use Rattle.depth.proofs.Filled.{work-of-last, last-line-is}
@@ -32,7 +33,7 @@ use Rattle.depth.proofs.LeastCut as least-cut
 use Rattle.depth.proofs.Reasons as reasons
 use Rattle.depth.proofs.Refusals.{depth-exactly}
 use Rattle.depth.proofs.Demand.{work-deeper, work-never-cured, meets-too}
-use Rattle.depth.proofs.Starred as the-starred
+use Rattle.depth.proofs.Cases.{computed}
 
 -- The squat never falls from column A to B to C, from lone to passing, or with the speed, from the table's first speed on; none counts as greatest.
 pub squat-never-falls : (lanes lanes' : Lanes) (c c' : Column) (speed speed' : ℕ) → squatReading lanes ≤ squatReading lanes'
@@ -112,9 +113,9 @@ meets-the-easier = meets-too
 pub never-cured : (q q' : Stretch) → Harder q q' → 2 ≤ q .speed → NeverCured (workDepth q) (workDepth q')
 never-cured q q' h from = work-never-cured q q' h 0 (omega arith) from
 
--- The starred figures: S, two lanes, P 100, bed 0, z2 31 over bed 578 and 577, speed 12 over bed 610 and 600.
-pub starred : map workDepth the-starred.cases ≡ the-starred.figures
-starred = the-starred.starred
+-- The starred cases have their figures.
+pub starred : map workDepth cases ≡ figures
+starred = computed
 
 -- Each call has one result.
 pub one-interval : (code r s : ℕ) → r ≡ intervalOf code → s ≡ intervalOf code → r ≡ s
