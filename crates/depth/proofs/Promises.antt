@@ -25,14 +25,14 @@ use Rattle.depth.specs.Worksheet.{columnTry, blankTry, findingOf, tries,
 use Rattle.depth.specs.Reasons.{FirstUnusable, Reasoned, depthRows}
 use Rattle.depth.specs.Harder.{Harder, Deeper, NeverCured}
 use Rattle.depth.specs.Starred.{cases, figures}
-use Rattle.depth.proofs.Squat.{lanes-columns-speeds}
-use Rattle.depth.proofs.Tries.{tries-count}
-use Rattle.depth.proofs.Filled.{work-of-last, last-line-is}
-use Rattle.depth.proofs.Following.{one-following}
-use Rattle.depth.proofs.LeastCut as least-cut
-use Rattle.depth.proofs.Reasons as reasons
+use Rattle.depth.proofs.squat.Table.{lanes-columns-speeds}
+use Rattle.depth.proofs.walks.Tries.{tries-count}
+use Rattle.depth.proofs.walks.Filled.{work-of-last, last-line-is}
+use Rattle.depth.proofs.walks.Following.{one-following}
+use Rattle.depth.proofs.cuts.LeastCut as least-cut
+use Rattle.depth.proofs.cuts.Reasons as reasons
 use Rattle.depth.proofs.Refusals.{depth-exactly}
-use Rattle.depth.proofs.Demand.{work-deeper, work-never-cured, meets-too}
+use Rattle.depth.proofs.cuts.Demand.{work-deeper, work-never-cured, meets-too}
 use Rattle.depth.proofs.Cases.{computed}
 
 -- The squat never falls from column A to B to C, from lone to passing, or with the speed, from the table's first speed on; none counts as greatest.

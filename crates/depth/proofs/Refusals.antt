@@ -1,7 +1,6 @@
 -- A depth tells of its rows: it is refused by the one whose reason it has, and has none where it is answered.
 use mathlib.Core.Path.{_≡_, refl, sym, ap, subst, _∙_}
 use mathlib.Core.Logic.{_≢_}
-use Prim.Native.Nat.{ℕ}
 use native.Mathlib.Omega.{arith}
 use lib.ListN.{length}
 use Rattle.laws.specs.Rows.{Exactly}
@@ -15,8 +14,8 @@ use Rattle.depth.specs.declared.Depth.the-variants.{Cut, NoCut}
 use Rattle.depth.specs.Depth.{Figures, AsDefined, depthFaultNumber, depthNumber}
 use Rattle.depth.specs.Worksheet.{tries, workDepth, Counted}
 use Rattle.depth.specs.Reasons.{FirstUnusable, depthRows}
-use Rattle.depth.proofs.LeastCut.{work-as-defined, work-counted}
-use Rattle.depth.proofs.Reasons.{number-exactly}
+use Rattle.depth.proofs.cuts.LeastCut.{work-as-defined, work-counted}
+use Rattle.depth.proofs.cuts.Reasons.{number-exactly}
 
 -- a depth that is answered, with its figures and the worksheet's count
 pub record Worked (q : Stretch) (depth : Depth) : Type 0 where

@@ -1,5 +1,4 @@
 -- A bend's figures: the least radius in lengths, the bounds of the widening's products, and the widening as it is worked.
--- Assumes nothing.
 use mathlib.Core.Path.{_≡_, refl, sym, _∙_}
 use mathlib.Core.Bool.{Bool, true, false}
 use Prim.Native.Nat.{ℕ, _*_, _/_, _%_, _≤_, _<_}
