@@ -4,7 +4,7 @@ use mathlib.Core.Path.{ap₂}
 use native.Mathlib.Omega.{arith}
 use borrow.Author.Needs.{needs}
 use Rattle.width.specs.Additions.{banksItem}
-use Rattle.width.proofs.Banks.{bank-within}
+use Rattle.width.proofs.additions.Banks.{bank-within}
 use Rattle.width.proofs.additions.banks_item.Statement.{statement}
 use Rattle.width.proofs.additions.banks_item.Tie as tie
 

@@ -3,7 +3,7 @@ use mathlib.Core.Path.{sym}
 use native.Mathlib.Omega.{arith}
 use borrow.Author.Needs.{needs}
 use Rattle.laws.proofs.Quotients.{up-parts}
-use Rattle.width.proofs.Curves.{whole-within, rest-within}
+use Rattle.width.proofs.bends.Products.{whole-within, rest-within}
 use Rattle.width.proofs.bends.scaled.Statement.{statement}
 use Rattle.width.proofs.bends.scaled.Tie as tie
 
