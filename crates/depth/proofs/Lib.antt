@@ -1,14 +1,7 @@
-pub mod Columns
-pub mod Squat
-pub mod Widths
-pub mod Findings
-pub mod Tries
-pub mod Filled
-pub mod Walk
-pub mod Following
-pub mod Easier
-pub mod LeastCut
-pub mod Reasons
-pub mod Demand
-pub mod Starred
+mod squat
+mod Sizes
+mod walks
+mod cuts
+pub mod Refusals
+mod Cases
 pub mod Promises

@@ -1,11 +1,11 @@
 -- What the depth promises, in the definition's order. Each proof cites the one that does the work.
--- Assumes nothing.
 use mathlib.Core.Path.{_≡_, ap, _∙_}
 use mathlib.Core.Logic.{_↔_}
 use mathlib.Core.List.{List, map}
 use Prim.Native.Nat.{ℕ, _-_, _≤_}
 use native.Mathlib.Omega.{arith}
 use lib.ListN.{length, getD}
+use Rattle.laws.specs.Rows.{Exactly}
 use Rattle.laws.proofs.Unique.{one-answer}
 use Rattle.lanes.specs.declared.Lanes.{Lanes}
 use Rattle.depth.specs.declared.Stretch.{Stretch}
@@ -22,16 +22,18 @@ use Rattle.depth.specs.Interval.{intervalOf}
 use Rattle.depth.specs.Squat.{columnNumber, squatReading, squatOf}
 use Rattle.depth.specs.Depth.{Meets, AsDefined, Ranges, depthFaultNumber, depthNumber, NoDepthNumber}
 use Rattle.depth.specs.Worksheet.{columnTry, blankTry, findingOf, tries, worksheetOf, answerOf, workDepth, Forward, Followed, Counted}
-use Rattle.depth.specs.Reasons.{FirstUnusable, Reasoned}
+use Rattle.depth.specs.Reasons.{FirstUnusable, Reasoned, depthRows}
 use Rattle.depth.specs.Harder.{Harder, Deeper, NeverCured}
-use Rattle.depth.proofs.Squat.{lanes-columns-speeds}
-use Rattle.depth.proofs.Tries.{tries-count}
-use Rattle.depth.proofs.Filled.{work-of-last, last-line-is}
-use Rattle.depth.proofs.Following.{one-following}
-use Rattle.depth.proofs.LeastCut as least-cut
-use Rattle.depth.proofs.Reasons as reasons
-use Rattle.depth.proofs.Demand.{work-deeper, work-never-cured, meets-too}
-use Rattle.depth.proofs.Starred as the-starred
+use Rattle.depth.specs.Starred.{cases, figures}
+use Rattle.depth.proofs.squat.Table.{lanes-columns-speeds}
+use Rattle.depth.proofs.walks.Tries.{tries-count}
+use Rattle.depth.proofs.walks.Filled.{work-of-last, last-line-is}
+use Rattle.depth.proofs.walks.Following.{one-following}
+use Rattle.depth.proofs.cuts.LeastCut as least-cut
+use Rattle.depth.proofs.cuts.Reasons as reasons
+use Rattle.depth.proofs.Refusals.{depth-exactly}
+use Rattle.depth.proofs.cuts.Demand.{work-deeper, work-never-cured, meets-too}
+use Rattle.depth.proofs.Cases.{computed}
 
 -- The squat never falls from column A to B to C, from lone to passing, or with the speed, from the table's first speed on; none counts as greatest.
 pub squat-never-falls : (lanes lanes' : Lanes) (c c' : Column) (speed speed' : ℕ) → squatReading lanes ≤ squatReading lanes'
@@ -50,6 +52,10 @@ no-other-depth = reasons.no-other
 -- and by none before it.
 pub number-exactly : (q : Stretch) (fault : DepthFault) → (depthNumber (workDepth q) ≡ depthFaultNumber fault) ↔ FirstUnusable q fault
 number-exactly = reasons.number-exactly
+
+-- So a number is given exactly when its row holds and none checked before it does, and every other depth is answered.
+pub numbers-in-order : (q : Stretch) → Exactly (depthRows q) (depthNumber (workDepth q))
+numbers-in-order = depth-exactly
 
 -- A stretch with a first column that the worksheet cannot use has no cut as defined.
 pub unusable-none : (q : Stretch) (fault : DepthFault) → FirstUnusable q fault → (d : ℕ) → Meets q d → ⊥
@@ -107,9 +113,9 @@ meets-the-easier = meets-too
 pub never-cured : (q q' : Stretch) → Harder q q' → 2 ≤ q .speed → NeverCured (workDepth q) (workDepth q')
 never-cured q q' h from = work-never-cured q q' h 0 (omega arith) from
 
--- The starred figures: S, two lanes, P 100, bed 0, z2 31 over bed 578 and 577, speed 12 over bed 610 and 600.
-pub starred : map workDepth the-starred.cases ≡ the-starred.figures
-starred = the-starred.starred
+-- The starred cases have their figures.
+pub starred : map workDepth cases ≡ figures
+starred = computed
 
 -- Each call has one result.
 pub one-interval : (code r s : ℕ) → r ≡ intervalOf code → s ≡ intervalOf code → r ≡ s

@@ -35,10 +35,16 @@ z3 q c = squatOf (q .lanes) c (q .speed)
 abbrev pub naturalOf : Stretch → ℕ
 naturalOf q = q .natural .0
 
--- the column of a cut d over the natural depth N, with h = d - N, or 0 if negative: A when 10h ≤ 5d, B when 10h ≤ 8d, else C
+-- h: what is dug of a depth d over the natural depth N, d - N, or 0 if negative
+abbrev pub dug : ℕ → ℕ → ℕ
+dug natural d = d - natural
+
+-- the column of a cut d of which h is dug: A when 10h ≤ 5d, B when 10h ≤ 8d, else C
+abbrev pub columnBy : ℕ → ℕ → Column
+columnBy h d = if 10 * h ≤ᵇ 5 * d then A else (if 10 * h ≤ᵇ 8 * d then B else C)
+
 unfoldable pub columnOf : ℕ → ℕ → Column
-columnOf natural d =
-    if 10 * (d - natural) ≤ᵇ 5 * d then A else (if 10 * (d - natural) ≤ᵇ 8 * d then B else C)
+columnOf natural d = columnBy (dug natural d) d
 
 -- sailing depth s = draft + z0 + z1 + z2 + z3, here with any squat
 unfoldable pub sailingWith : Stretch → ℕ → ℕ
@@ -48,9 +54,9 @@ sailingWith q squat = q .draft + z0 q + z1 q + z2 q + squat
 unfoldable pub sailing : Stretch → Column → ℕ
 sailing q c = sailingWith q (z3 q c)
 
--- silt = P × interval × (s - N) / 100,000, rounded up; 0 when s ≤ N, as s - N is then 0
+-- silt = P × interval × (s - N) / 100,000, rounded up; 0 when s ≤ N, as nothing is then dug
 unfoldable pub siltTo : Stretch → ℕ → ℕ
-siltTo q s = up (q .silting * q .interval * (s - naturalOf q)) 100000
+siltTo q s = up (q .silting * q .interval * dug (naturalOf q) s) 100000
 
 -- z4: the silt of a column
 unfoldable pub z4 : Stretch → Column → ℕ
@@ -90,16 +96,17 @@ pub record Ranges (f : DepthFigures) : Type 0 where
   pub columns-from : 1 ≤ f .columns
   pub columns-to : f .columns ≤ 3
 
--- the number that turns a sheet away (section 8), 0 for none
+-- the number that turns a sheet away for a fault (section 8)
 abbrev pub depthFaultNumber : DepthFault → ℕ
 depthFaultNumber NoSquatEntry = 13
 depthFaultNumber SiltOver = 14
 depthFaultNumber CutOver = 15
 
--- "no depth" is any of the three
-abbrev pub NoDepthNumber : ℕ → Type 0
-NoDepthNumber number = (number ≡ 13) ⊎ ((number ≡ 14) ⊎ (number ≡ 15))
-
+-- the number of a depth, 0 for none
 abbrev pub depthNumber : Depth → ℕ
 depthNumber (Cut f) = 0
 depthNumber (NoCut fault) = depthFaultNumber fault
+
+-- "no depth" is any of the three
+abbrev pub NoDepthNumber : ℕ → Type 0
+NoDepthNumber number = (number ≡ 13) ⊎ ((number ≡ 14) ⊎ (number ≡ 15))

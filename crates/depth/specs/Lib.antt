@@ -5,3 +5,4 @@ pub mod Depth
 pub mod Worksheet
 pub mod Reasons
 pub mod Harder
+pub mod Starred

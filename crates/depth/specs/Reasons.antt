@@ -1,6 +1,8 @@
 -- Why a stretch has no depth (section 4.7): the first column that the worksheet cannot use, with no word of how the worksheet is followed.
+use mathlib.Core.List.{List, [], _∷_}
 use mathlib.Core.Logic.{_≢_}
 use Prim.Native.Nat.{_≤_, _<_}
+use Rattle.laws.specs.Rows.{Row, _when_}
 use Rattle.depth.specs.declared.Stretch.{Stretch}
 use Rattle.depth.specs.declared.Column.{Column}
 use Rattle.depth.specs.declared.Column.the-variants.{A}
@@ -39,3 +41,11 @@ pub record FirstUnusable (q : Stretch) (fault : DepthFault) : Type 0 where
 abbrev pub Reasoned : Stretch → Depth → Type 0
 Reasoned q (Cut f) = Unit {0}
 Reasoned q (NoCut fault) = FirstUnusable q fault
+
+-- the rows of section 8, in the order of the worksheet's tests
+abbrev pub depthRows : Stretch → List Row
+depthRows q =
+    (13 when FirstUnusable q NoSquatEntry)
+    ∷ (14 when FirstUnusable q SiltOver)
+    ∷ (15 when FirstUnusable q CutOver)
+    ∷ []

@@ -5,7 +5,7 @@ ghost use lib.ListN.{getD};
 ghost use Rattle.laws.specs.Rounding.{up};
 ghost use Rattle.depth.specs.Interval.{intervalOf};
 ghost use Rattle.depth.specs.Squat.{columnNumber, squatReading, squatOf};
-ghost use Rattle.depth.specs.Depth.{columnOf, sailingWith, siltTo, depthFaultNumber};
+ghost use Rattle.depth.specs.Depth.{dug, columnOf, sailingWith, siltTo, depthFaultNumber};
 ghost use Rattle.depth.specs.Worksheet.{reckoned, columnTry, blankTry, findingOf, movesOn, answerOf, worksheetOf, workDepth};
 use datum::BelowLevel;
 use lanes::Lanes;
@@ -152,7 +152,7 @@ fn squat_of(lanes: Lanes, column: Column, speed: u8) -> u16
 
 // How far a depth lies below the natural one, or 0 if it does not.
 fn dug_to(depth: ReckonedDepth, natural: BelowLevel) -> u64
-    ensures { λ r. ⌜ r ≡ depth .0 - natural .0 ⌝ }
+    ensures { λ r. ⌜ r ≡ dug (natural .0) (depth .0) ⌝ }
 {
     let bed = natural.0 as u64;
     if depth.0 < bed { 0 } else { depth.0 - bed }

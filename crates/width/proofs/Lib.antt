@@ -1,9 +1,6 @@
-pub mod Banks
-pub mod Entering
-pub mod Totals
-pub mod Curves
-pub mod Growth
+mod Totals
+mod Meaning
+mod Growth
 pub mod Refusals
-pub mod Meaning
-pub mod Cases
+mod Cases
 pub mod Promises

@@ -18,7 +18,7 @@ use Rattle.width.specs.Bends.{leastLengths, wideningOf, bendOf}
 use Rattle.width.specs.declared.Stretch.{Stretch}
 use Rattle.width.specs.declared.Entries.{Entries}
 use Rattle.width.specs.declared.Bend.the-variants.{Widening}
-use Rattle.width.proofs.Curves.{lengths-within, straight, long-enough, widened, wide}
+use Rattle.width.proofs.bends.Ways.{lengths-within, straight, long-enough, widened, wide}
 
 -- a number that is rounded up is the least that reaches
 up-exactly : (top bottom n cm : ℕ) → 0 < bottom → n ≡ up top bottom → (n ≡ cm) ↔ Least (λ (w : ℕ). top ≤ w * bottom) cm

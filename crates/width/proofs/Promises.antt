@@ -11,7 +11,7 @@ use Rattle.lanes.specs.Lanes.{laneCount}
 use Rattle.lanes.specs.declared.Lanes.{Lanes}
 use Rattle.lanes.specs.declared.Lanes.the-variants.{One, Two}
 use Rattle.width.specs.Bands.{entriesOf}
-use Rattle.width.specs.Width.{itemsOf, laneAndAdded, tenthsOf, widthOf}
+use Rattle.width.specs.Width.{itemsOf, laneAndAdded, tenthsOf, widthOf, widthFigure}
 use Rattle.width.specs.Bends.{leastLengths, bendOf}
 use Rattle.width.specs.Refusals.{widthFaultNumber, bendNumber, entriesNumber, bendRows, entriesRows}
 use Rattle.width.specs.Comparing.{Harder, NoNarrower}
@@ -24,8 +24,8 @@ use Rattle.width.specs.declared.WidthFault.{WidthFault}
 use Rattle.width.specs.declared.Bend.{Bend}
 use Rattle.width.specs.declared.Bend.the-variants.{Widening}
 use Rattle.width.proofs.Totals.{one-lane-total, two-lanes-total}
-use Rattle.width.proofs.Curves.{straight-always}
-use Rattle.width.proofs.Growth.{never-narrower}
+use Rattle.width.proofs.bends.Ways.{straight-always}
+use Rattle.width.proofs.Growth.{never-narrower, figure-rises}
 use Rattle.width.proofs.Refusals.{entries-exactly, bend-exactly}
 use Rattle.width.proofs.Meaning.{rounded-exactly, none-from-ten, widening-exactly}
 use Rattle.width.proofs.Cases.{computed}
@@ -52,6 +52,11 @@ number-8 = entries-exactly
 pub harder-never-narrower : (easy hard : Stretch) (water speed : ℕ) (cross cross' : CrossCurrent) (wave wave' : ℕ) → Harder easy hard
     → cross .0 ≤ cross' .0 → wave ≤ wave' → NoNarrower easy hard (entriesOf water speed cross wave) (entriesOf water speed cross' wave')
 harder-never-narrower = never-narrower
+
+-- So where the harder has entries its figure is no less.
+pub figure-no-less : (easy hard : Stretch) (a b : EntriesFound) → NoNarrower easy hard a b → entriesNumber b ≡ 0
+    → widthFigure easy a ≤ widthFigure hard b
+figure-no-less = figure-rises
 
 -- A straight has no least radius and no widening.
 pub straight-is-free : (radius length knots : ℕ) (lanes : Lanes) → bendOf 0 radius length knots lanes ≡ Widening 0

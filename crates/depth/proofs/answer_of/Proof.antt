@@ -1,30 +1,17 @@
 -- `depth::answer_of` meets its contract: an arm for each finding; a try that stays is at most 3,000, so its depths fit.
--- Assumes nothing.
 use mathlib.Core.Path.{sym, _∙_}
 use native.Mathlib.Omega.{arith}
 use Rattle.depth.specs.declared.Finding.the-variants.{Stays, Moves, Unusable}
-use Rattle.depth.proofs.Findings.{stays-within, answer-by}
+use Rattle.depth.proofs.walks.Findings.{stays-within, answer-by}
 use borrow.Author.Needs.{needs}
 use Rattle.depth.proofs.answer_of.Statement.{statement}
 use Rattle.depth.proofs.answer_of.Tie as tie
-
-finding-of-requires : tie.Need-finding-of-requires
-finding-of-requires c κs = search needs
-
-enum-told : tie.Need-enum-told
-enum-told c = search needs
 
 cast-t6 : tie.Need-cast-t6
 cast-t6 c = omega (arith, stays-within (c .before .before .before .before .args .last) (sym (c .before .before .before .finding-of .ensures) ∙ c .before .enum-told .given .1) .to)
 
 cast-t8 : tie.Need-cast-t8
 cast-t8 c = omega (arith, stays-within (c .before .before .before .before .before .args .last) (sym (c .before .before .before .before .finding-of .ensures) ∙ c .before .before .enum-told .given .1) .to)
-
-enum-told-2 : tie.Need-enum-told-2
-enum-told-2 c = search needs
-
-enum-known-fault : tie.Need-enum-known-fault
-enum-known-fault c = search needs
 
 returns : tie.Need-returns
 returns c = let a = c .before .before .before .before .before .args in answer-by (a .last) Stays (sym (c .before .before .before .before .finding-of .ensures) ∙ c .before .before .enum-told .given .1) (a .columns)
@@ -41,12 +28,12 @@ pub answer-of-spec : {M : Type 1} → statement M
 answer-of-spec =
     tie.close
     (tie.spec
-    finding-of-requires
-    enum-told
+    (λ c κs. search needs)
+    (λ c. search needs)
     cast-t6
     cast-t8
-    enum-told-2
-    enum-known-fault
+    (λ c. search needs)
+    (λ c. search needs)
     returns
     returns-2
     returns-3)

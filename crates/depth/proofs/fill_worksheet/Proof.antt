@@ -1,32 +1,16 @@
 -- `depth::fill_worksheet` meets its contract: a way out for one, two and three tries.
--- Assumes nothing.
 use mathlib.Core.Path.{sym, _∙_}
 use borrow.Author.Tests.{not-true, not-false}
-use Rattle.depth.proofs.Filled.{filled-one, filled-two, filled-three}
+use Rattle.depth.proofs.walks.Filled.{filled-one, filled-two, filled-three}
 use borrow.Author.Needs.{needs}
 use Rattle.depth.proofs.fill_worksheet.Statement.{statement}
 use Rattle.depth.proofs.fill_worksheet.Tie as tie
-
-blank-try-requires : tie.Need-blank-try-requires
-blank-try-requires c κs = search needs
-
-try-column-requires : tie.Need-try-column-requires
-try-column-requires c κs = search needs
-
-moves-on-requires : tie.Need-moves-on-requires
-moves-on-requires c κs = search needs
 
 returns : tie.Need-returns
 returns c =
     let b = c .before .before in
     rw (b .before .blank-try .ensures)
     (filled-one (b .before .before .args .stretch) _ (b .try-column .ensures) (sym (c .before .moves-on .ensures) ∙ not-true _ (c .if1 .taken)))
-
-try-column-requires-2 : tie.Need-try-column-requires-2
-try-column-requires-2 c κs = search needs
-
-moves-on-requires-2 : tie.Need-moves-on-requires-2
-moves-on-requires-2 c κs = search needs
 
 returns-2 : tie.Need-returns-2
 returns-2 c =
@@ -35,9 +19,6 @@ returns-2 c =
     (filled-two (b .before .before .args .stretch) _ (b .try-column .ensures)
     (sym (c .before .before .before .before .moves-on .ensures) ∙ not-false _ (c .before .before .before .if1 .left)) _
     (c .before .before .try-column2 .ensures) (sym (c .before .moves-on2 .ensures) ∙ not-true _ (c .if2 .taken)))
-
-try-column-requires-3 : tie.Need-try-column-requires-3
-try-column-requires-3 c κs = search needs
 
 returns-3 : tie.Need-returns-3
 returns-3 c =
@@ -51,12 +32,12 @@ pub fill-worksheet-spec : {M : Type 1} → statement M
 fill-worksheet-spec =
     tie.close
     (tie.spec
-    blank-try-requires
-    try-column-requires
-    moves-on-requires
+    (λ c κs. search needs)
+    (λ c κs. search needs)
+    (λ c κs. search needs)
     returns
-    try-column-requires-2
-    moves-on-requires-2
+    (λ c κs. search needs)
+    (λ c κs. search needs)
     returns-2
-    try-column-requires-3
+    (λ c κs. search needs)
     returns-3)

@@ -1,7 +1,6 @@
 -- `depth::finding_of` meets its contract: a way out for each limit, and two where the figure falls.
--- Assumes nothing.
 use native.Mathlib.Omega.{arith}
-use Rattle.depth.proofs.Findings.{no-entry, too-much-silt, too-deep, stays, moves}
+use Rattle.depth.proofs.walks.Findings.{no-entry, too-much-silt, too-deep, stays, moves}
 use borrow.Author.Needs.{needs}
 use Rattle.depth.proofs.finding_of.Statement.{statement}
 use Rattle.depth.proofs.finding_of.Tie as tie
@@ -14,12 +13,6 @@ returns-2 c = too-much-silt _ (omega arith) (omega arith)
 
 returns-3 : tie.Need-returns-3
 returns-3 c = too-deep _ (omega arith) (omega arith) (omega arith)
-
-column-number-requires : tie.Need-column-number-requires
-column-number-requires c κs = search needs
-
-column-number-requires-2 : tie.Need-column-number-requires-2
-column-number-requires-2 c κs = search needs
 
 returns-4 : tie.Need-returns-4
 returns-4 c = stays _ (omega arith) (omega arith) (omega arith) (omega arith)
@@ -34,7 +27,7 @@ finding-of-spec =
     returns
     returns-2
     returns-3
-    column-number-requires
-    column-number-requires-2
+    (λ c κs. search needs)
+    (λ c κs. search needs)
     returns-4
     returns-5)

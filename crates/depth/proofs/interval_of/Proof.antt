@@ -1,5 +1,4 @@
 -- `depth::interval_of` meets its contract: the table is the definition's, and a code past it is tested first.
--- Assumes nothing.
 use mathlib.Core.Path.{refl}
 use borrow.Author.Tests.{lt-ltb, le-ltb}
 use Rattle.depth.specs.Interval.{intervalOf}
@@ -11,15 +10,9 @@ returns : tie.Need-returns
 unfolding intervalOf
 returns c = rw (lt-ltb _ _ (c .if1 .taken)) refl
 
-mul-result : tie.Need-mul-result
-mul-result c = search needs
-
-array-read-result : tie.Need-array-read-result
-array-read-result c = search needs
-
 returns-2 : tie.Need-returns-2
 unfolding intervalOf
 returns-2 c = rw (le-ltb _ _ (c .if1 .left)) refl
 
 pub interval-of-spec : {M : Type 1} → statement M
-interval-of-spec = tie.close (tie.spec returns mul-result array-read-result returns-2)
+interval-of-spec = tie.close (tie.spec returns (λ c. search needs) (λ c. search needs) returns-2)

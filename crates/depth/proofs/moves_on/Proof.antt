@@ -1,23 +1,10 @@
 -- `depth::moves_on` meets its contract: an arm for each finding.
--- Assumes nothing.
 use Rattle.depth.specs.declared.Finding.the-variants.{Stays, Moves, Unusable}
-use Rattle.depth.proofs.Findings.{moves-by}
+use Rattle.depth.proofs.walks.Findings.{moves-by}
 use mathlib.Core.Path.{sym, _∙_}
 use borrow.Author.Needs.{needs}
 use Rattle.depth.proofs.moves_on.Statement.{statement}
 use Rattle.depth.proofs.moves_on.Tie as tie
-
-finding-of-requires : tie.Need-finding-of-requires
-finding-of-requires c κs = search needs
-
-enum-told : tie.Need-enum-told
-enum-told c = search needs
-
-enum-told-2 : tie.Need-enum-told-2
-enum-told-2 c = search needs
-
-enum-told-3 : tie.Need-enum-told-3
-enum-told-3 c = search needs
 
 returns : tie.Need-returns
 returns c = moves-by (c .before .before .before .args .tried) Stays (sym (c .before .before .finding-of .ensures) ∙ c .enum-told .given .1)
@@ -31,4 +18,4 @@ returns-3 c = moves-by (c .before .before .before .args .tried) (Unusable (c .en
 pub moves-on-spec : {M : Type 1} → statement M
 moves-on-spec =
     tie.close
-    (tie.spec finding-of-requires enum-told enum-told-2 enum-told-3 returns returns-2 returns-3)
+    (tie.spec (λ c κs. search needs) (λ c. search needs) (λ c. search needs) (λ c. search needs) returns returns-2 returns-3)

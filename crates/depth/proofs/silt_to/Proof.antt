@@ -1,22 +1,12 @@
 -- `depth::silt_to` meets its contract: the product fits 51 bits.
--- Assumes nothing.
 use Prim.Native.Nat.{_*_, _^_, _<_}
 use native.Mathlib.Omega.{arith}
 use Rattle.laws.proofs.Products.{product-lt}
 use Rattle.depth.specs.Depth.{siltTo}
-use Rattle.depth.proofs.Widths.{silt-product}
+use Rattle.depth.proofs.Sizes.{silt-product}
 use borrow.Author.Needs.{needs}
 use Rattle.depth.proofs.silt_to.Statement.{statement}
 use Rattle.depth.proofs.silt_to.Tie as tie
-
-dug-to-requires : tie.Need-dug-to-requires
-dug-to-requires c κs = search needs
-
-cast-result : tie.Need-cast-result
-cast-result c = search needs
-
-cast-result-2 : tie.Need-cast-result-2
-cast-result-2 c = search needs
 
 mul-result : tie.Need-mul-result
 mul-result c =
@@ -46,4 +36,4 @@ returns c = (rw (c .before .before .dug-to .ensures) (omega arith), omega (arith
 pub silt-to-spec : {M : Type 1} → statement M
 silt-to-spec =
     tie.close
-    (tie.spec dug-to-requires cast-result cast-result-2 mul-result mul-result-2 add-result returns)
+    (tie.spec (λ c κs. search needs) (λ c. search needs) (λ c. search needs) mul-result mul-result-2 add-result returns)

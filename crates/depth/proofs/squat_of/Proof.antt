@@ -1,8 +1,7 @@
 -- `depth::squat_of` meets its contract: the table is the definition's, and a speed outside it is tested first.
--- Assumes nothing.
 use native.Mathlib.Omega.{arith}
-use Rattle.depth.proofs.Columns.{column-most, reading-most}
-use Rattle.depth.proofs.Squat.{too-slow, too-fast, in-table}
+use Rattle.depth.proofs.squat.Columns.{column-most, reading-most}
+use Rattle.depth.proofs.squat.Table.{too-slow, too-fast, in-table}
 use borrow.Author.Needs.{needs}
 use Rattle.depth.proofs.squat_of.Statement.{statement}
 use Rattle.depth.proofs.squat_of.Tie as tie
@@ -13,14 +12,8 @@ returns c = too-slow _ _ _ (omega arith)
 returns-2 : tie.Need-returns-2
 returns-2 c = too-fast _ _ _ (omega arith)
 
-column-number-requires : tie.Need-column-number-requires
-column-number-requires c κs = search needs
-
 mul-row : tie.Need-mul-row
 mul-row c = omega (arith, column-most (c .before .before .before .args .column))
-
-squat-reading-requires : tie.Need-squat-reading-requires
-squat-reading-requires c κs = search needs
 
 add-row : tie.Need-add-row
 add-row c = omega (arith, column-most (c .before .before .before .before .args .column), reading-most (c .before .before .before .before .args .lanes))
@@ -31,15 +24,6 @@ mul-row-2 c = omega (arith, column-most (c .before .before .before .before .args
 array-copy-out-row : tie.Need-array-copy-out-row
 array-copy-out-row c = omega (arith, column-most (c .before .before .before .before .args .column), reading-most (c .before .before .before .before .args .lanes))
 
-sub-result : tie.Need-sub-result
-sub-result c = search needs
-
-mul-result : tie.Need-mul-result
-mul-result c = search needs
-
-array-read-result : tie.Need-array-read-result
-array-read-result c = search needs
-
 returns-3 : tie.Need-returns-3
 returns-3 c = rw (c .before .before .column-number .ensures, c .before .squat-reading .ensures) (in-table _ _ _ (omega arith) (omega arith))
 
@@ -49,13 +33,13 @@ squat-of-spec =
     (tie.spec
     returns
     returns-2
-    column-number-requires
+    (λ c κs. search needs)
     mul-row
-    squat-reading-requires
+    (λ c κs. search needs)
     add-row
     mul-row-2
     array-copy-out-row
-    sub-result
-    mul-result
-    array-read-result
+    (λ c. search needs)
+    (λ c. search needs)
+    (λ c. search needs)
     returns-3)

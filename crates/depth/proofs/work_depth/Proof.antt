@@ -1,10 +1,9 @@
 -- `depth::work_depth` meets its contract: the count is 1 to 3, and the line there is the last try.
--- Assumes nothing.
 use mathlib.Core.Path.{_≡_, ap₂, _∙_}
 use native.Mathlib.Omega.{arith}
 use Rattle.depth.specs.Worksheet.{lastTry, tries, answerOf, workDepth}
-use Rattle.depth.proofs.Tries.{tries-count, last-sails}
-use Rattle.depth.proofs.Filled.{count-is, last-is}
+use Rattle.depth.proofs.walks.Tries.{tries-count, last-sails}
+use Rattle.depth.proofs.walks.Filled.{count-is, last-is}
 use borrow.Author.Needs.{needs}
 use Rattle.depth.proofs.work_depth.Statement.{statement}
 use Rattle.depth.proofs.work_depth.Tie as tie
@@ -12,9 +11,6 @@ use Rattle.depth.proofs.work_depth.Tie as tie
 -- the line that was taken is the last try
 taken-is : (c : tie.After-last-line) → c .last-line .result ≡ lastTry (tries (c .before .before .args .stretch))
 taken-is c = c .last-line .ensures ∙ last-is (c .before .before .args .stretch) _ (c .before .fill-worksheet .ensures)
-
-fill-worksheet-requires : tie.Need-fill-worksheet-requires
-fill-worksheet-requires c κs = search needs
 
 last-line-requires : tie.Need-last-line-requires
 last-line-requires c κs =
@@ -31,4 +27,4 @@ returns c =
     c .answer-of .ensures ∙ ap₂ answerOf (taken-is l) (count-is (l .before .before .args .stretch) _ (l .before .fill-worksheet .ensures))
 
 pub work-depth-spec : {M : Type 1} → statement M
-work-depth-spec = tie.close (tie.spec fill-worksheet-requires last-line-requires answer-of-requires returns)
+work-depth-spec = tie.close (tie.spec (λ c κs. search needs) last-line-requires answer-of-requires returns)

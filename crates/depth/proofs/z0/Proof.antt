@@ -1,15 +1,11 @@
 -- `depth::z0` meets its contract: the sum is the one that rounds up.
--- Assumes nothing.
 use native.Mathlib.Omega.{arith}
 use borrow.Author.Needs.{needs}
 use Rattle.depth.proofs.z0.Statement.{statement}
 use Rattle.depth.proofs.z0.Tie as tie
 
-add-result : tie.Need-add-result
-add-result c = search needs
-
 returns : tie.Need-returns
 returns c = omega arith
 
 pub z0-spec : {M : Type 1} → statement M
-z0-spec = tie.close (tie.spec add-result returns)
+z0-spec = tie.close (tie.spec (λ c. search needs) returns)

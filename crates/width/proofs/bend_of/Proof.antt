@@ -2,7 +2,7 @@
 use native.Mathlib.Nat.{mul-le-mul}
 use native.Mathlib.Omega.{arith}
 use borrow.Author.Needs.{needs}
-use Rattle.width.proofs.Curves.{lengths-within, straight, tight, long-enough, widened, wide}
+use Rattle.width.proofs.bends.Ways.{lengths-within, straight, tight, long-enough, widened, wide}
 use Rattle.width.proofs.bend_of.Statement.{statement}
 use Rattle.width.proofs.bend_of.Tie as tie
 

@@ -1,6 +1,6 @@
 -- `width::entries_of` meets its contract: a way out for each pair of entries.
 use borrow.Author.Needs.{needs}
-use Rattle.width.proofs.Entering.{no-current, no-height, both-entered}
+use Rattle.width.proofs.bands.Entering.{no-current, no-height, both-entered}
 use Rattle.width.proofs.entries_of.Statement.{statement}
 use Rattle.width.proofs.entries_of.Tie as tie
 

@@ -1,5 +1,4 @@
 -- `width::speed_band_of` meets its contract: a way out for each case of the definition.
--- Assumes nothing.
 use borrow.Author.Tests.{le-ltb, lt-ltb}
 use Rattle.width.specs.Bands.{speedBandOf}
 use Rattle.width.proofs.speed_band_of.Statement.{statement}

@@ -1,5 +1,4 @@
 -- `width::water_of` meets its contract: a way out for each case of the definition.
--- Assumes nothing.
 use borrow.Author.Tests.{eq-eqb, ne-eqb}
 use Rattle.width.specs.Bands.{waterOf}
 use Rattle.width.proofs.water_of.Statement.{statement}

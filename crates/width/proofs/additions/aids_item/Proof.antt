@@ -1,5 +1,4 @@
 -- `width::additions::aids_item` meets its contract: a way out for each case of the definition.
--- Assumes nothing.
 use borrow.Author.Tests.{eq-eqb, ne-eqb}
 use Rattle.width.specs.Additions.{aidsItem}
 use Rattle.width.proofs.additions.aids_item.Statement.{statement}

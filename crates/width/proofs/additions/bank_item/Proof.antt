@@ -1,24 +1,17 @@
 -- `width::additions::bank_item` meets its contract: a way out for each case of the definition.
--- Assumes nothing.
 use borrow.Author.Needs.{needs}
 use borrow.Author.Tests.{eq-eqb, ne-eqb}
 use Rattle.width.specs.Additions.{bankItem}
 use Rattle.width.proofs.additions.bank_item.Statement.{statement}
 use Rattle.width.proofs.additions.bank_item.Tie as tie
 
-paced-requires : tie.Need-paced-requires
-paced-requires c κs = search needs
-
 returns : tie.Need-returns
 unfolding bankItem
 returns c = rw (eq-eqb _ 0 (c .before .if1 .taken)) (c .paced .ensures)
-
-paced-requires-2 : tie.Need-paced-requires-2
-paced-requires-2 c κs = search needs
 
 returns-2 : tie.Need-returns-2
 unfolding bankItem
 returns-2 c = rw (ne-eqb _ 0 (c .before .if1 .left)) (c .paced2 .ensures)
 
 pub bank-item-spec : {M : Type 1} → statement M
-bank-item-spec = tie.close (tie.spec paced-requires returns paced-requires-2 returns-2)
+bank-item-spec = tie.close (tie.spec (λ c κs. search needs) returns (λ c κs. search needs) returns-2)

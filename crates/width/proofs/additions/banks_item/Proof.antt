@@ -1,19 +1,12 @@
 -- `width::additions::banks_item` meets its contract: neither bank is over 10, so the sum fits.
--- Assumes nothing.
 use Prim.Native.Nat.{_+_}
 use mathlib.Core.Path.{ap₂}
 use native.Mathlib.Omega.{arith}
 use borrow.Author.Needs.{needs}
 use Rattle.width.specs.Additions.{banksItem}
-use Rattle.width.proofs.Banks.{bank-within}
+use Rattle.width.proofs.additions.Banks.{bank-within}
 use Rattle.width.proofs.additions.banks_item.Statement.{statement}
 use Rattle.width.proofs.additions.banks_item.Tie as tie
-
-bank-item-requires : tie.Need-bank-item-requires
-bank-item-requires c κs = search needs
-
-bank-item-requires-2 : tie.Need-bank-item-requires-2
-bank-item-requires-2 c κs = search needs
 
 add-result : tie.Need-add-result
 add-result c = omega (arith, c .before .bank-item .ensures, c .bank-item2 .ensures, bank-within (c .before .before .args .band) (c .before .before .args .left), bank-within (c .before .before .args .band) (c .before .before .args .right))
@@ -23,4 +16,4 @@ unfolding banksItem
 returns c = ap₂ _+_ (c .before .bank-item .ensures) (c .bank-item2 .ensures)
 
 pub banks-item-spec : {M : Type 1} → statement M
-banks-item-spec = tie.close (tie.spec bank-item-requires bank-item-requires-2 add-result returns)
+banks-item-spec = tie.close (tie.spec (λ c κs. search needs) (λ c κs. search needs) add-result returns)

@@ -1,19 +1,9 @@
 -- `width::additions::bed_item` meets its contract: a way out for each case of the definition.
--- Assumes nothing.
 use borrow.Author.Needs.{needs}
 use borrow.Author.Tests.{le-leb, lt-leb, eq-eqb, ne-eqb}
 use Rattle.width.specs.Additions.{bedItem}
 use Rattle.width.proofs.additions.bed_item.Statement.{statement}
 use Rattle.width.proofs.additions.bed_item.Tie as tie
-
-mul-if1 : tie.Need-mul-if1
-mul-if1 c = search needs
-
-cast-if1 : tie.Need-cast-if1
-cast-if1 c = search needs
-
-mul-if1-2 : tie.Need-mul-if1-2
-mul-if1-2 c = search needs
 
 returns : tie.Need-returns
 unfolding bedItem
@@ -33,4 +23,4 @@ returns-4 c = rw (lt-leb _ _ (c .before .before .if1 .left), ne-eqb _ 0 (c .befo
 
 pub bed-item-spec : {M : Type 1} → statement M
 bed-item-spec =
-    tie.close (tie.spec mul-if1 cast-if1 mul-if1-2 returns returns-2 returns-3 returns-4)
+    tie.close (tie.spec (λ c. search needs) (λ c. search needs) (λ c. search needs) returns returns-2 returns-3 returns-4)

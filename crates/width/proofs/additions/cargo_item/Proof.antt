@@ -1,5 +1,4 @@
 -- `width::additions::cargo_item` meets its contract: a way out for each case of the definition.
--- Assumes nothing.
 use borrow.Author.Needs.{needs}
 use borrow.Author.Tests.{eq-eqb, ne-eqb}
 use Rattle.width.specs.Additions.{cargoItem}
@@ -10,19 +9,13 @@ returns : tie.Need-returns
 unfolding cargoItem
 returns c = rw (eq-eqb _ 0 (c .if1 .taken))
 
-watered-requires : tie.Need-watered-requires
-watered-requires c κs = search needs
-
 returns-2 : tie.Need-returns-2
 unfolding cargoItem
 returns-2 c = rw (ne-eqb _ 0 (c .before .before .if1 .left), eq-eqb _ 1 (c .before .if2 .taken)) (c .watered .ensures)
-
-watered-requires-2 : tie.Need-watered-requires-2
-watered-requires-2 c κs = search needs
 
 returns-3 : tie.Need-returns-3
 unfolding cargoItem
 returns-3 c = rw (ne-eqb _ 0 (c .before .before .if1 .left), ne-eqb _ 1 (c .before .if2 .left)) (c .watered2 .ensures)
 
 pub cargo-item-spec : {M : Type 1} → statement M
-cargo-item-spec = tie.close (tie.spec returns watered-requires returns-2 watered-requires-2 returns-3)
+cargo-item-spec = tie.close (tie.spec returns (λ c κs. search needs) returns-2 (λ c κs. search needs) returns-3)

@@ -1,5 +1,4 @@
 -- `width::additions::lane_item` meets its contract: a way out for each case of the definition.
--- Assumes nothing.
 use borrow.Author.Tests.{eq-eqb, ne-eqb}
 use Rattle.width.specs.Additions.{laneItem}
 use Rattle.width.proofs.additions.lane_item.Statement.{statement}

@@ -1,5 +1,4 @@
 -- `width::additions::traffic_item` meets its contract: a way out for each case of the definition.
--- Assumes nothing.
 use borrow.Author.Needs.{needs}
 use borrow.Author.Tests.{le-leb, lt-leb}
 use Rattle.width.specs.Additions.{trafficItem}
@@ -14,12 +13,9 @@ returns-2 : tie.Need-returns-2
 unfolding trafficItem
 returns-2 c = rw (lt-leb _ 2400 (c .before .if1 .left), le-leb _ 7200 (c .if2 .taken))
 
-watered-requires : tie.Need-watered-requires
-watered-requires c κs = search needs
-
 returns-3 : tie.Need-returns-3
 unfolding trafficItem
 returns-3 c = rw (lt-leb _ 2400 (c .before .before .if1 .left), lt-leb _ 7200 (c .before .if2 .left)) (c .watered .ensures)
 
 pub traffic-item-spec : {M : Type 1} → statement M
-traffic-item-spec = tie.close (tie.spec returns returns-2 watered-requires returns-3)
+traffic-item-spec = tie.close (tie.spec returns returns-2 (λ c κs. search needs) returns-3)

@@ -1,5 +1,4 @@
 -- `width::bands::along_item` meets its contract: a way out for each line of the annex.
--- Assumes nothing.
 use borrow.Author.Needs.{needs}
 use borrow.Author.Tests.{le-leb, le-ltb, lt-leb, lt-ltb}
 use Rattle.width.specs.Bands.{alongItem}
@@ -10,12 +9,6 @@ returns : tie.Need-returns
 unfolding alongItem
 returns c = rw (lt-ltb _ 15 (c .if1 .taken))
 
-enum-told : tie.Need-enum-told
-enum-told c = search needs
-
-enum-told-2 : tie.Need-enum-told-2
-enum-told-2 c = search needs
-
 returns-2 : tie.Need-returns-2
 unfolding alongItem
 returns-2 c = rw (le-ltb _ 15 (c .before .before .before .if1 .left), le-leb _ 30 (c .before .before .if2 .taken), c .enum-told .given .1)
@@ -23,12 +16,6 @@ returns-2 c = rw (le-ltb _ 15 (c .before .before .before .if1 .left), le-leb _ 3
 returns-3 : tie.Need-returns-3
 unfolding alongItem
 returns-3 c = rw (le-ltb _ 15 (c .before .before .before .if1 .left), le-leb _ 30 (c .before .before .if2 .taken), c .enum-told2 .given .1)
-
-enum-told-3 : tie.Need-enum-told-3
-enum-told-3 c = search needs
-
-enum-told-4 : tie.Need-enum-told-4
-enum-told-4 c = search needs
 
 returns-4 : tie.Need-returns-4
 unfolding alongItem
@@ -43,11 +30,11 @@ along-item-spec =
     tie.close
     (tie.spec
     returns
-    enum-told
-    enum-told-2
+    (λ c. search needs)
+    (λ c. search needs)
     returns-2
     returns-3
-    enum-told-3
-    enum-told-4
+    (λ c. search needs)
+    (λ c. search needs)
     returns-4
     returns-5)

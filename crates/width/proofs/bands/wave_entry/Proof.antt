@@ -1,5 +1,4 @@
 -- `width::bands::wave_entry` meets its contract: a way out for each line of the annex.
--- Assumes nothing.
 use borrow.Author.Needs.{needs}
 use borrow.Author.Tests.{le-leb, lt-leb}
 use Rattle.width.specs.Bands.{waveEntry}
@@ -10,18 +9,6 @@ returns : tie.Need-returns
 unfolding waveEntry
 returns c = rw (le-leb _ 100 (c .if1 .taken))
 
-enum-told : tie.Need-enum-told
-enum-told c = search needs
-
-open-only-requires : tie.Need-open-only-requires
-open-only-requires c κs = search needs
-
-enum-told-2 : tie.Need-enum-told-2
-enum-told-2 c = search needs
-
-open-only-requires-2 : tie.Need-open-only-requires-2
-open-only-requires-2 c κs = search needs
-
 returns-2 : tie.Need-returns-2
 unfolding waveEntry
 returns-2 c = rw (lt-leb _ 100 (c .before .before .before .before .if1 .left), le-leb _ 300 (c .before .before .before .if2 .taken), c .before .enum-told .given .1) (c .open-only .ensures)
@@ -29,18 +16,6 @@ returns-2 c = rw (lt-leb _ 100 (c .before .before .before .before .if1 .left), l
 returns-3 : tie.Need-returns-3
 unfolding waveEntry
 returns-3 c = rw (lt-leb _ 100 (c .before .before .before .before .if1 .left), le-leb _ 300 (c .before .before .before .if2 .taken), c .before .enum-told2 .given .1) (c .open-only2 .ensures)
-
-enum-told-3 : tie.Need-enum-told-3
-enum-told-3 c = search needs
-
-open-only-requires-3 : tie.Need-open-only-requires-3
-open-only-requires-3 c κs = search needs
-
-enum-told-4 : tie.Need-enum-told-4
-enum-told-4 c = search needs
-
-open-only-requires-4 : tie.Need-open-only-requires-4
-open-only-requires-4 c κs = search needs
 
 returns-4 : tie.Need-returns-4
 unfolding waveEntry
@@ -55,15 +30,15 @@ wave-entry-spec =
     tie.close
     (tie.spec
     returns
-    enum-told
-    open-only-requires
-    enum-told-2
-    open-only-requires-2
+    (λ c. search needs)
+    (λ c κs. search needs)
+    (λ c. search needs)
+    (λ c κs. search needs)
     returns-2
     returns-3
-    enum-told-3
-    open-only-requires-3
-    enum-told-4
-    open-only-requires-4
+    (λ c. search needs)
+    (λ c κs. search needs)
+    (λ c. search needs)
+    (λ c κs. search needs)
     returns-4
     returns-5)

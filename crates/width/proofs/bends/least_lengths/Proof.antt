@@ -1,5 +1,4 @@
 -- `width::bends::least_lengths` meets its contract: a way out for each case of the definition.
--- Assumes nothing.
 use borrow.Author.Tests.{le-ltb, lt-ltb}
 use Rattle.width.specs.Bends.{leastLengths}
 use Rattle.width.proofs.bends.least_lengths.Statement.{statement}

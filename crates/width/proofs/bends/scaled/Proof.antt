@@ -1,10 +1,9 @@
 -- `width::bends::scaled` meets its contract: the quotient in two parts is the whole quotient, and each part fits.
--- Assumes nothing.
 use mathlib.Core.Path.{sym}
 use native.Mathlib.Omega.{arith}
 use borrow.Author.Needs.{needs}
 use Rattle.laws.proofs.Quotients.{up-parts}
-use Rattle.width.proofs.Curves.{whole-within, rest-within}
+use Rattle.width.proofs.bends.Products.{whole-within, rest-within}
 use Rattle.width.proofs.bends.scaled.Statement.{statement}
 use Rattle.width.proofs.bends.scaled.Tie as tie
 
@@ -13,9 +12,6 @@ mul-whole c = record { fits = omega (arith, whole-within (c .args .ship) (c .arg
 
 mul-rest : tie.Need-mul-rest
 mul-rest c = record { fits = omega (arith, rest-within (c .args .ship) (c .args .square) (c .pre .0) (c .pre .1)) }
-
-sub-result : tie.Need-sub-result
-sub-result c = search needs
 
 add-result : tie.Need-add-result
 add-result c = record { fits = omega (arith, rest-within (c .args .ship) (c .args .square) (c .pre .0) (c .pre .1)) }
@@ -27,4 +23,4 @@ returns : tie.Need-returns
 returns c = sym (up-parts (c .args .ship) (c .args .square) 305750000 (omega arith))
 
 pub scaled-spec : {M : Type 1} → statement M
-scaled-spec = tie.close (tie.spec mul-whole mul-rest sub-result add-result add-result-2 returns)
+scaled-spec = tie.close (tie.spec mul-whole mul-rest (λ c. search needs) add-result add-result-2 returns)

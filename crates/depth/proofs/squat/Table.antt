@@ -1,6 +1,5 @@
 -- The squat table: each entry is some squat, "none" is the greatest, and nothing falls from A to B to C, from lone to passing, or with the speed.
 -- One test of each rule is computed over the whole table and carried to each entry.
--- Assumes nothing.
 use mathlib.Core.Path.{_≡_, refl}
 use mathlib.Core.Bool.{Bool, true, false}
 use mathlib.Core.List.{[]}
@@ -15,7 +14,7 @@ use Rattle.laws.proofs.Every.{every-at}
 use Rattle.lanes.specs.declared.Lanes.{Lanes}
 use Rattle.depth.specs.declared.Column.{Column}
 use Rattle.depth.specs.Squat.{none, squatTable, columnNumber, squatReading, squatEntry, squatOf}
-use Rattle.depth.proofs.Columns.{column-most, reading-most}
+use Rattle.depth.proofs.squat.Columns.{column-most, reading-most}
 
 -- the second test, where the first holds
 abbrev where-true : Bool → Bool → Bool

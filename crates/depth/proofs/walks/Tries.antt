@@ -1,5 +1,4 @@
 -- The tries of a walk: one line of it, how many they are, and its last try.
--- Assumes nothing.
 use mathlib.Core.Path.{_≡_, refl}
 use mathlib.Core.Bool.{Bool, true, false}
 use mathlib.Core.List.{[], _∷_}

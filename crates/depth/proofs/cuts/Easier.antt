@@ -1,5 +1,4 @@
 -- Sailing depth and silt only grow with the stretch and with the column, so what serves a harder stretch serves an easier one.
--- Assumes nothing.
 use mathlib.Core.Path.{_≡_}
 use Prim.Native.Nat.{ℕ, _+_, _-_, _*_, _≤_, _<_}
 use native.Mathlib.Nat.{mul-le-mul}
@@ -10,7 +9,7 @@ use Rattle.depth.specs.declared.Column.{Column}
 use Rattle.depth.specs.Squat.{none, columnNumber, squatReading}
 use Rattle.depth.specs.Depth.{z3, z4, sailing, sailingWith, siltTo, Serves}
 use Rattle.depth.specs.Harder.{Harder}
-use Rattle.depth.proofs.Squat.{entry-from, lanes-columns-speeds}
+use Rattle.depth.proofs.squat.Table.{entry-from, lanes-columns-speeds}
 
 -- a stretch is as hard as itself
 pub as-hard : (q : Stretch) → Harder q q

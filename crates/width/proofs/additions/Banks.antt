@@ -1,5 +1,4 @@
 -- A bank adds no more than 10 tenths of the beam.
--- Assumes nothing.
 use mathlib.Core.Bool.{Bool, true, false}
 use Prim.Native.Nat.{ℕ, _≤_}
 use native.Mathlib.Omega.{arith}

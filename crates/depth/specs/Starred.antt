@@ -1,7 +1,5 @@
--- The starred figures of the depth, as one table.
--- Assumes nothing.
-use mathlib.Core.Path.{_≡_, refl}
-use mathlib.Core.List.{List, [], _∷_, map}
+-- The starred cases of section 11 that are depths.
+use mathlib.Core.List.{List, [], _∷_}
 use Prim.Native.Nat.{ℕ}
 use Rattle.datum.specs.Datum.{below}
 use Rattle.lanes.specs.declared.Lanes.{Lanes}
@@ -10,9 +8,6 @@ use Rattle.depth.specs.declared.Stretch.{Stretch}
 use Rattle.depth.specs.declared.DepthFault.the-variants.{NoSquatEntry}
 use Rattle.depth.specs.declared.Depth.{Depth}
 use Rattle.depth.specs.declared.Depth.the-variants.{Cut, NoCut}
-use Rattle.depth.specs.Squat.{squatEntry}
-use Rattle.depth.specs.Depth.{z3, z4, columnOf, sailing, sailingWith, siltTo}
-use Rattle.depth.specs.Worksheet.{figure, columnTry, findingOf, movesOn, walk, tries, answerOf, workDepth}
 
 -- S over a bed, with its other fields as the case has them
 abbrev pub S : ℕ → ℕ → ℕ → ℕ → Lanes → Stretch
@@ -32,6 +27,7 @@ S bed speed allowance silting lanes = record {
 abbrev pub cut : ℕ → ℕ → ℕ → Depth
 cut d s n = Cut (record { cut = below d; sailing = below s; columns = n })
 
+-- S, two lanes, P 100, bed 0, z2 31 over bed 578 and 577, speed 12 over bed 610 and 600
 abbrev pub cases : List Stretch
 cases =
     S 500 8 30 0 One
@@ -44,6 +40,7 @@ cases =
     ∷ S 600 12 30 0 One
     ∷ []
 
+-- the depth of each; the last is refused, by 13
 abbrev pub figures : List Depth
 figures =
     cut 1170 1170 2
@@ -55,7 +52,3 @@ figures =
     ∷ cut 1220 1220 1
     ∷ NoCut NoSquatEntry
     ∷ []
-
-pub starred : map workDepth cases ≡ figures
-unfolding squatEntry z3 z4 columnOf sailing sailingWith siltTo figure columnTry findingOf movesOn walk tries answerOf workDepth
-starred = refl

@@ -1,5 +1,4 @@
 -- The worksheet's answer is the depth as it is defined: the least cut that meets the definition, or that none does. Nothing else is.
--- Assumes nothing.
 use mathlib.Core.Path.{_≡_, refl, ap, subst}
 use mathlib.Core.Logic.{_↔_}
 use mathlib.Core.Bool.{false}
@@ -20,13 +19,13 @@ use Rattle.depth.specs.declared.Depth.the-variants.{Cut, NoCut}
 use Rattle.depth.specs.Squat.{none, columnNumber, squatReading}
 use Rattle.depth.specs.Depth.{z3, z4, sailing, sailingWith, naturalOf, ownColumn, Serves, Meets, Figures, AsDefined, Ranges, depthNumber}
 use Rattle.depth.specs.Worksheet.{figure, columnTry, findingOf, isMove, movesOn, tries, lastTry, answerBy, answerOf, workDepth, Forward, Followed, Counted}
-use Rattle.depth.proofs.Columns.{column-most, reading-most, column-up, same-column}
-use Rattle.depth.proofs.Squat.{squat-some}
-use Rattle.depth.proofs.Findings.{Says, finding-says, not-within, fault-known}
-use Rattle.depth.proofs.Easier.{serves-earlier}
-use Rattle.depth.proofs.Tries.{tries-count}
-use Rattle.depth.proofs.Following.{walk-followed}
-use Rattle.depth.proofs.Walk.{Tells, Ends, Walked, walk-right}
+use Rattle.depth.proofs.squat.Columns.{column-most, reading-most, column-up, same-column}
+use Rattle.depth.proofs.squat.Table.{squat-some}
+use Rattle.depth.proofs.walks.Findings.{Says, finding-says, not-within, fault-known}
+use Rattle.depth.proofs.cuts.Easier.{serves-earlier}
+use Rattle.depth.proofs.walks.Tries.{tries-count}
+use Rattle.depth.proofs.walks.Following.{walk-followed}
+use Rattle.depth.proofs.walks.Ending.{Tells, Ends, Walked, walk-right}
 
 module _ (q : Stretch) where
   -- what a try says that ends this stretch's worksheet

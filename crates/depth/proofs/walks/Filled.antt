@@ -1,5 +1,4 @@
 -- The worksheet as data: the code's one, two or three tries are the definition's, and the line that the count reaches is the last try.
--- Assumes nothing.
 use mathlib.Core.Path.{_≡_, refl, sym, ap, ap₂, _∙_}
 use mathlib.Core.Bool.{true, false}
 use mathlib.Core.List.{List, [], _∷_, _++_}
@@ -11,7 +10,7 @@ use Rattle.depth.specs.declared.Column.the-variants.{A}
 use Rattle.depth.specs.declared.Try.{Try}
 use Rattle.depth.specs.declared.Worksheet.{Worksheet}
 use Rattle.depth.specs.Worksheet.{columnTry, movesOn, tries, blankTry, worksheetOf, lastTry, answerOf, workDepth}
-use Rattle.depth.proofs.Tries.{walk-stops, walk-goes-on, walk-last, tries-count}
+use Rattle.depth.proofs.walks.Tries.{walk-stops, walk-goes-on, walk-last, tries-count}
 
 -- three lines, of which the first are these tries
 abbrev pub filled : List Try → Worksheet

@@ -1,5 +1,4 @@
 -- What the sums and products of the depth come to, at most, for numbers of the widths that a stretch has.
--- Assumes nothing.
 use Prim.Native.Nat.{ℕ, _+_, _*_, _^_, _≤_, _<_}
 use native.Mathlib.Nat.{mul-le-mul}
 use native.Mathlib.Omega.{arith}

@@ -1,6 +1,5 @@
 -- Demand 3 for the depth, by one argument: what meets the definition for a stretch that is harder by k cm of draft and wave allowance meets it
 -- k cm higher for the other, so the least cut is deeper by k or more and no refusal is cured.
--- Assumes nothing.
 use mathlib.Core.Path.{_≡_, subst}
 use Prim.Native.Nat.{ℕ, _+_, _-_, _≤_}
 use native.Mathlib.Omega.{arith}
@@ -10,9 +9,9 @@ use Rattle.depth.specs.declared.Depth.the-variants.{Cut, NoCut}
 use Rattle.depth.specs.Depth.{naturalOf, ownColumn, Serves, Meets, AsDefined}
 use Rattle.depth.specs.Worksheet.{workDepth}
 use Rattle.depth.specs.Harder.{Harder, Deeper, NeverCured}
-use Rattle.depth.proofs.Columns.{column-up}
-use Rattle.depth.proofs.Easier.{table-speed, serves-easier}
-use Rattle.depth.proofs.LeastCut.{served-some, work-as-defined}
+use Rattle.depth.proofs.squat.Columns.{column-up}
+use Rattle.depth.proofs.cuts.Easier.{table-speed, serves-easier}
+use Rattle.depth.proofs.cuts.LeastCut.{served-some, work-as-defined}
 
 module _ (q q' : Stretch) (h : Harder q q') (k : ℕ) (hk : q .draft + q .allowance + k ≤ q' .draft + q' .allowance) where
   module _ (from : 2 ≤ q .speed) where

@@ -1,6 +1,5 @@
 -- The worksheet ends at the least number that meets a rule, for any rule `Fit column number` that only gets harder from column to column and any
 -- line that tells the least number that fits its column: each number that is good lies at the column tried or past it.
--- Assumes nothing.
 use mathlib.Core.Path.{_≡_, refl, sym, subst}
 use mathlib.Core.Bool.{Bool, true, false}
 use mathlib.Core.List.{List, [], _∷_}
@@ -15,8 +14,8 @@ use Rattle.depth.specs.declared.Finding.{Finding}
 use Rattle.depth.specs.declared.Finding.the-variants.{Stays, Moves, Unusable}
 use Rattle.depth.specs.Squat.{columnNumber}
 use Rattle.depth.specs.Worksheet.{findingOf, isMove, movesOn, walk, lastTry, Forward}
-use Rattle.depth.proofs.Columns.{column-most}
-use Rattle.depth.proofs.Tries.{last-later, forward-later}
+use Rattle.depth.proofs.squat.Columns.{column-most}
+use Rattle.depth.proofs.walks.Tries.{last-later, forward-later}
 
 module _ (own : ℕ → Column) (Fit : Column → ℕ → Type 0) (Good : ℕ → Type 0) (line : Column → Try) where
   -- what a column's line tells, by its finding

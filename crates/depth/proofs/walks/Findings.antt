@@ -1,5 +1,4 @@
 -- What a try comes to: the ways out of the code's tests, and what each finding says.
--- Assumes nothing.
 use mathlib.Core.Path.{_≡_, refl, sym, ap, subst}
 use mathlib.Core.Bool.{Bool, true, false}
 use Prim.Native.Nat.{ℕ, _≤_, _<_}

@@ -1,5 +1,4 @@
 -- The reason of a depth that is not given: the worksheet comes to one column that it cannot leave, and that column fails by one test.
--- Assumes nothing.
 use mathlib.Core.Path.{_≡_, refl, sym, ap, subst, _∙_}
 use mathlib.Core.Bool.{true, false, true≢false}
 use mathlib.Core.List.{List, [], _∷_}
@@ -23,9 +22,9 @@ use Rattle.depth.specs.Squat.{none, columnNumber}
 use Rattle.depth.specs.Depth.{sailing, ownColumn, Meets, AsDefined, depthFaultNumber, depthNumber, NoDepthNumber}
 use Rattle.depth.specs.Worksheet.{figure, columnTry, findingOf, isMove, movesOn, tries, lastTry, answerBy, answerOf, workDepth, Followed, Counted}
 use Rattle.depth.specs.Reasons.{Usable, Fails, Comes, there, by-way-of, FirstUnusable, Reasoned}
-use Rattle.depth.proofs.Columns.{same-column}
-use Rattle.depth.proofs.Findings.{no-entry, too-much-silt, too-deep, moves, Within, Past, Says, finding-says}
-use Rattle.depth.proofs.LeastCut.{last-stops, tries-followed, work-as-defined, work-counted}
+use Rattle.depth.proofs.squat.Columns.{same-column}
+use Rattle.depth.proofs.walks.Findings.{no-entry, too-much-silt, too-deep, moves, Within, Past, Says, finding-says}
+use Rattle.depth.proofs.cuts.LeastCut.{last-stops, tries-followed, work-as-defined, work-counted}
 
 -- a depth of these figures
 abbrev cutOf : ℕ → ℕ → ℕ → Depth

@@ -1,5 +1,4 @@
 -- The columns in their order, and the column of a cut: it never falls as the cut grows.
--- Assumes nothing.
 use mathlib.Core.Path.{_≡_, refl}
 use mathlib.Core.Bool.{Bool, true, false}
 use Prim.Native.Nat.{ℕ, _-_, _*_, _≤_, _<_}

@@ -1,5 +1,4 @@
 -- The tries are those that follow the worksheet until it stays: the bound of two moves cuts nothing off, and no other tries follow it.
--- Assumes nothing.
 use mathlib.Core.Path.{_≡_, refl, sym, ap, subst, _∙_}
 use mathlib.Core.Bool.{Bool, true, false}
 use mathlib.Core.List.{List, [], _∷_}
@@ -9,7 +8,7 @@ use Rattle.laws.specs.Choice.{if_then_else_}
 use Rattle.depth.specs.declared.Column.{Column}
 use Rattle.depth.specs.declared.Try.{Try}
 use Rattle.depth.specs.Worksheet.{movesOn, walk, lastTry, Followed}
-use Rattle.depth.proofs.Tries.{last-later}
+use Rattle.depth.proofs.walks.Tries.{last-later}
 
 module _ (line : Column → Try) where
   -- a column that moves, in front of tries that are followed from the column its figure falls in

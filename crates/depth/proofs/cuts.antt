@@ -1,0 +1,4 @@
+mod Easier
+pub mod LeastCut
+pub mod Reasons
+pub mod Demand

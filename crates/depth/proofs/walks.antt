@@ -1,0 +1,5 @@
+pub mod Findings
+pub mod Tries
+pub mod Filled
+pub mod Ending
+pub mod Following
