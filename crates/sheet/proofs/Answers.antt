@@ -1,42 +1,53 @@
 -- What reading and writing answer, case by case.
--- Assumes nothing.
 use mathlib.Core.Path.{_≡_, refl}
 use mathlib.Core.List.{List, _++_}
 use Prim.Native.Nat.{ℕ, _<_, _≤_}
 use borrow.Author.Tests.{eq-eqb, ne-eqb, le-ltb, lt-ltb}
-use lib.ListN.{length, drop}
-use Rattle.sheet.specs.Fields.{groups, count, nth, firstBad}
-use Rattle.sheet.specs.Packing.{size, groupsOf, bytesOf}
-use Rattle.sheet.specs.Sheets.{sheetOf, figuresOf, readGroups, readOf, writtenOf, placeOf}
+use lib.ListN.{length, take, drop}
+use lib.Seq.{getD-take}
+use Rattle.sheet.specs.Fields.{count, nth, firstBad}
+use Rattle.sheet.specs.Packing.{size, groupsOf, figuresIn, bytesOf}
+use Rattle.sheet.specs.Sheets.{sheetOf, figuresOf, sheetFrom, readGroups, readOf, writtenOf, placeOf}
 use Rattle.sheet.specs.declared.Sheet.{Sheet}
 use Rattle.sheet.specs.declared.SheetRead.the-variants.{Good, NoSheet}
 use Rattle.sheet.specs.declared.ReadFault.the-variants.{WrongLength, SpareBitSet, BadField}
 use Rattle.sheet.specs.declared.SheetWritten.the-variants.{Done, NotWritten}
 use Rattle.sheet.specs.declared.WriteFault.the-variants.{PlaceTooSmall, BadField as BadFieldToWrite}
+use Rattle.sheet.proofs.SameFields.{sheet-from-same}
 
 module _ (b : List ℕ) where
   pub read-length : (length b ≡ size → ⊥) → NoSheet WrongLength ≡ readOf b
   unfolding readOf
   read-length h = rw (ne-eqb (length b) size h)
 
-  module _ (v : List ℕ) (l : length b ≡ size) (e : v ≡ groupsOf b) where
-    pub read-spare : (nth v count ≡ 0 → ⊥) → NoSheet SpareBitSet ≡ readOf b
+  module _ (spare : ℕ) (l : length b ≡ size) (e : spare ≡ nth (groupsOf b) count) where
+    pub read-spare : (spare ≡ 0 → ⊥) → NoSheet SpareBitSet ≡ readOf b
     unfolding readOf readGroups
-    read-spare h = rw (eq-eqb (length b) size l, ← e, ne-eqb (nth v count) 0 h)
+    read-spare h = rw (eq-eqb (length b) size l, ← e, ne-eqb spare 0 h)
 
-    pub read-bad : (k : ℕ) → nth v count ≡ 0 → k ≡ firstBad v → (k ≡ 0 → ⊥) → NoSheet (BadField k) ≡ readOf b
+    pub read-from : spare ≡ 0 → sheetFrom (groupsOf b) ≡ readOf b
     unfolding readOf readGroups
-    read-bad k z f h = rw (eq-eqb (length b) size l, ← e, eq-eqb (nth v count) 0 z, ← f, ne-eqb k 0 h)
+    read-from h = rw (eq-eqb (length b) size l, ← e, eq-eqb spare 0 h)
 
-    pub read-good : (k : ℕ) (s : Sheet) → nth v count ≡ 0 → k ≡ firstBad v → k ≡ 0 → s ≡ sheetOf v → Good s ≡ readOf b
-    unfolding readOf readGroups
-    read-good k s z f h g = rw (eq-eqb (length b) size l, ← e, eq-eqb (nth v count) 0 z, ← f, eq-eqb k 0 h, g)
+  -- the spare bits are not among the figures that make the sheet
+  pub figures-in : sheetFrom (figuresIn b) ≡ sheetFrom (groupsOf b)
+  unfolding figuresIn
+  figures-in = sheet-from-same (take count (groupsOf b)) (groupsOf b) (λ k h. getD-take count (groupsOf b) k 0 h)
+
+module _ (v : List ℕ) (k : ℕ) (f : k ≡ firstBad v) where
+  pub from-bad : (k ≡ 0 → ⊥) → NoSheet (BadField k) ≡ sheetFrom v
+  unfolding sheetFrom
+  from-bad h = rw (← f, ne-eqb k 0 h)
+
+  pub from-good : (s : Sheet) → k ≡ 0 → s ≡ sheetOf v → Good s ≡ sheetFrom v
+  unfolding sheetFrom
+  from-good s h g = rw (← f, eq-eqb k 0 h, g)
 
 pub figures-spare : (s : Sheet) → nth (figuresOf s) count ≡ 0
 unfolding figuresOf
 figures-spare s = refl
 
-pub figures-length : (s : Sheet) → length (figuresOf s) ≡ groups
+pub figures-length : (s : Sheet) → length (figuresOf s) ≡ count
 unfolding figuresOf
 figures-length s = refl
 

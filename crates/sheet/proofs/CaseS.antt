@@ -1,5 +1,4 @@
 -- Case S of the definition's figures (section 11): its bytes and its sheet, computed.
--- Assumes nothing.
 use mathlib.Core.Path.{_≡_, refl}
 use mathlib.Core.List.{List, [], _∷_}
 use Prim.Native.Nat.{ℕ}
@@ -9,7 +8,7 @@ use Rattle.datum.specs.Datum.{belowChart}
 use Rattle.sheet.specs.Bits.{starts, joined, cut}
 use Rattle.sheet.specs.Fields.{fields, fieldAt, width, least, greatest, pairBad, badAt, firstBad}
 use Rattle.sheet.specs.Packing.{listed, numberOf, groupsOf, bytesOf}
-use Rattle.sheet.specs.Sheets.{levelSourceOf, sheetOf, bedFigure, sourceFigure, levelFigure, figuresOf, readGroups, readOf}
+use Rattle.sheet.specs.Sheets.{levelSourceOf, sheetOf, bedFigure, sourceFigure, levelFigure, figuresOf, sheetFrom, readGroups, readOf}
 use Rattle.sheet.specs.declared.Sheet.{Sheet}
 use Rattle.sheet.specs.declared.LevelSource.the-variants.{Given}
 use Rattle.sheet.specs.declared.SheetRead.the-variants.{Good}
@@ -52,7 +51,7 @@ bytesS =
     ∷ 64 ∷ 0 ∷ []
 
 pub s-read : readOf bytesS ≡ Good sheetS
-unfolding starts joined cut firstFrom fields fieldAt width least greatest pairBad badAt firstBad listed numberOf groupsOf levelSourceOf sheetOf readGroups readOf
+unfolding starts joined cut firstFrom fields fieldAt width least greatest pairBad badAt firstBad listed numberOf groupsOf levelSourceOf sheetOf sheetFrom readGroups readOf
 s-read = refl
 
 pub s-written : bytesOf (figuresOf sheetS) ≡ bytesS

@@ -8,6 +8,7 @@ pub mod RoundTrip
 pub mod Rules
 pub mod Runs
 pub mod BadRuns
+pub mod SameFields
 pub mod Valid
 pub mod Packed
 pub mod Spare

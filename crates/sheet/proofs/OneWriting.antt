@@ -1,27 +1,29 @@
 -- A written sheet is read back, and each sheet has one writing.
--- Assumes nothing.
 use mathlib.Core.Path.{_≡_, refl, ap, sym, _∙_}
 use mathlib.Core.Bool.{Bool, true, false, _&&_, false≢true}
 use mathlib.Core.List.{List}
 use Prim.Native.Nat.{ℕ, _≤_}
 use native.Mathlib.Omega.{arith}
+use borrow.Author.Count.{below-more}
 use borrow.Author.Tests.{eq-eqb, eqb-true, le-ltb, not-false}
 use lib.Dec.{eqb}
 use lib.ListN.{length, take, drop}
 use lib.Seq.{take-at}
 use Rattle.laws.specs.Choice.{if_then_else_}
-use Rattle.sheet.specs.Fields.{groups, count, fields, fieldAt, nth, greatest, pairBad, firstBad}
-use Rattle.sheet.specs.Packing.{size, listed, groupsOf, bytesOf, Bytes}
-use Rattle.sheet.specs.Sheets.{sheetOf, bedFigure, figuresOf, readGroups, readOf, placeOf, Valid}
+use Rattle.sheet.specs.Bits.{cut}
+use Rattle.sheet.specs.Fields.{groups, count, fields, fieldAt, width, nth, greatest, pairBad, firstBad}
+use Rattle.sheet.specs.Packing.{size, eight, listed, groupsOf, bytesOf, Bytes}
+use Rattle.sheet.specs.Sheets.{sheetOf, bedFigure, figuresOf, sheetFrom, readGroups, readOf, placeOf, Valid}
 use Rattle.sheet.specs.declared.Sheet.{Sheet}
 use Rattle.sheet.specs.declared.SheetRead.the-variants.{Good, NoSheet}
 use Rattle.sheet.specs.declared.ReadFault.the-variants.{WrongLength, SpareBitSet, BadField}
-use Rattle.sheet.proofs.Regroup.{listed-is, listed-length}
+use Rattle.sheet.proofs.Regroup.{joined-same, listed-is, listed-length}
 use Rattle.sheet.proofs.RoundTrip.{groups-of-bytes, bytes-of-groups}
 use Rattle.sheet.proofs.Beds.{bed-back}
 use Rattle.sheet.proofs.Levels.{level-back, figures-back}
-use Rattle.sheet.proofs.Valid.{fine, fine-narrow, groups-length}
-use Rattle.sheet.proofs.Answers.{read-good, figures-spare, figures-length}
+use Rattle.sheet.proofs.SameFields.{alone, alone-at, first-bad-same, sheet-from-same}
+use Rattle.sheet.proofs.Valid.{fine, fine-narrow, figures-end}
+use Rattle.sheet.proofs.Answers.{read-from, from-good, figures-spare}
 
 -- the greatest bed and the greatest source
 bed-greatest : greatest 5 ≡ 3000
@@ -45,28 +47,56 @@ no-level : (v : List ℕ) → pairBad v 27 ≡ false → nth v 26 ≡ 0 → nth 
 unfolding pairBad
 no-level v p h = eqb-true (nth v 27) 0 (not-false _ (and-false (eqb (nth v 26) 0) _ p (eq-eqb (nth v 26) 0 h)))
 
-pub figures-of-sheet : (v : List ℕ) → length v ≡ groups → firstBad v ≡ 0 → nth v count ≡ 0 → figuresOf (sheetOf v) ≡ v
+-- figures of which none is bad are those of their sheet
+pub figures-of-sheet : (v : List ℕ) → firstBad v ≡ 0 → figuresOf (sheetOf v) ≡ alone v
 unfolding sheetOf figuresOf bedFigure listed
-figures-of-sheet v l e z =
+figures-of-sheet v e =
     let source = fine v e 26 (omega arith) in
     let level = fine v e 27 (omega arith) in
     let b = figures-back (nth v 26) (nth v 27) (omega (arith, source-greatest)) (no-level v (level .pair)) in
-    let w : v ≡ listed (nth v) 0 groups = listed-is (nth v) groups v l (λ k h. refl) in
-    let g : figuresOf (sheetOf v) ≡ listed (nth v) 0 groups = rw (b .source-back, b .level-figure-back, z) in
-    g ∙ sym w
+    rw (b .source-back, b .level-figure-back)
+
+pub valid-sheet : (v : List ℕ) → firstBad v ≡ 0 → Valid (sheetOf v)
+unfolding Valid
+valid-sheet v e = rw (figures-of-sheet v e) (first-bad-same (alone v) v (alone-at v) ∙ e)
 
 pub bytes-length : (v : List ℕ) → length (bytesOf v) ≡ size
 unfolding bytesOf
 bytes-length v = listed-length _ 0 size
+
+-- a valid sheet is that of its figures
+pub from-figures : (s : Sheet) → Valid s → sheetFrom (figuresOf s) ≡ Good s
+unfolding Valid
+from-figures s e = sym (from-good (figuresOf s) 0 (sym e) s refl (sym (sheet-of-figures s e)))
+
+-- a sheet that figures make passed their tests
+pub record Made (v : List ℕ) (s : Sheet) : Type 0 where
+  pub none : firstBad v ≡ 0
+  pub sheet : sheetOf v ≡ s
+
+pub made : (v : List ℕ) (s : Sheet) → sheetFrom v ≡ Good s → Made v s
+unfolding sheetFrom
+made v s e = go (eqb (firstBad v) 0) refl e
+  where
+    go : (n : Bool) → eqb (firstBad v) 0 ≡ n → (if n then Good (sheetOf v) else NoSheet (BadField (firstBad v))) ≡ Good s → Made v s
+    go true r e = record { none = eqb-true _ _ r; sheet = cc }
+    go false r e = let x : _≡_ {A = ℕ} 0 1 = cc in absurd (omega arith)
+
+-- and its figures are those
+pub figures-of-made : (v : List ℕ) (s : Sheet) → length v ≡ count → sheetFrom v ≡ Good s → figuresOf s ≡ v
+figures-of-made v s l e =
+    let m = made v s e in
+    ap figuresOf (sym (m .sheet)) ∙ figures-of-sheet v (m .none) ∙ sym (listed-is (nth v) count v l (λ k h. refl))
 
 -- what is written of a sheet is read as that sheet
 pub read-written : (s : Sheet) → Valid s → readOf (bytesOf (figuresOf s)) ≡ Good s
 unfolding Valid
 read-written s e =
     let v = figuresOf s in
-    let z = figures-spare s in
-    let back : groupsOf (bytesOf v) ≡ v = groups-of-bytes v (figures-length s) (fine-narrow v e z) in
-    sym (read-good (bytesOf v) v (bytes-length v) (sym back) 0 s z (sym e) refl (sym (sheet-of-figures s e)))
+    let back = groups-of-bytes v (fine-narrow v e (figures-spare s)) in
+    sym (read-from (bytesOf v) _ (bytes-length v) refl (back count (omega arith) ∙ figures-spare s))
+    ∙ sheet-from-same (groupsOf (bytesOf v)) v (λ k h. back k (omega arith))
+    ∙ from-figures s e
 
 -- a string of bytes that is read as a sheet passed each test
 pub record Accepted (b : List ℕ) (s : Sheet) : Type 0 where
@@ -77,18 +107,30 @@ pub record Accepted (b : List ℕ) (s : Sheet) : Type 0 where
 
 pub accepted : (b : List ℕ) (s : Sheet) → readOf b ≡ Good s → Accepted b s
 unfolding readOf readGroups
-accepted b s e = go (eqb (length b) size) (eqb (nth v count) 0) (eqb (firstBad v) 0) refl refl refl e
+accepted b s e = go (eqb (length b) size) (eqb (nth v count) 0) refl refl e
   where
     v : List ℕ
     v = groupsOf b
 
-    go : (l z n : Bool) → eqb (length b) size ≡ l → eqb (nth v count) 0 ≡ z → eqb (firstBad v) 0 ≡ n
-        → (if l then (if z then (if n then Good (sheetOf v) else NoSheet (BadField (firstBad v))) else NoSheet SpareBitSet) else NoSheet WrongLength) ≡ Good s → Accepted b s
-    go true true true p q r e =
-        record { long = eqb-true _ _ p; spare = eqb-true _ _ q; none = eqb-true _ _ r; sheet = cc }
-    go true true false p q r e = let x : _≡_ {A = ℕ} 0 1 = cc in absurd (omega arith)
-    go true false n p q r e = let x : _≡_ {A = ℕ} 0 1 = cc in absurd (omega arith)
-    go false z n p q r e = let x : _≡_ {A = ℕ} 0 1 = cc in absurd (omega arith)
+    go : (l z : Bool) → eqb (length b) size ≡ l → eqb (nth v count) 0 ≡ z
+        → (if l then (if z then sheetFrom v else NoSheet SpareBitSet) else NoSheet WrongLength) ≡ Good s → Accepted b s
+    go true true p q e =
+        let m = made v s e in
+        record { long = eqb-true _ _ p; spare = eqb-true _ _ q; none = m .none; sheet = m .sheet }
+    go true false p q e = let x : _≡_ {A = ℕ} 0 1 = cc in absurd (omega arith)
+    go false z p q e = let x : _≡_ {A = ℕ} 0 1 = cc in absurd (omega arith)
+
+pub read-valid : (b : List ℕ) (s : Sheet) → readOf b ≡ Good s → Valid s
+read-valid b s e = let a = accepted b s e in rw (← a .sheet) (valid-sheet (groupsOf b) (a .none))
+
+-- figures with no spare bit are written in the bytes of those of their fields
+bytes-alone : (v : List ℕ) → nth v count ≡ 0 → bytesOf (alone v) ≡ bytesOf v
+unfolding bytesOf
+bytes-alone v z =
+    ap (λ (x : ℕ). listed (cut eight size x) 0 size)
+    (joined-same width (nth (alone v)) (nth v) groups
+    (below-more (λ (k : ℕ). nth (alone v) k ≡ nth v k) count (alone-at v)
+    (figures-end (alone v) (listed-length (nth v) 0 count) ∙ sym z)))
 
 -- where bytes are read as a sheet, it is valid, and they are its writing
 pub record Written (b : List ℕ) (s : Sheet) : Type 0 where
@@ -96,12 +138,11 @@ pub record Written (b : List ℕ) (s : Sheet) : Type 0 where
   pub bytes : b ≡ bytesOf (figuresOf s)
 
 pub written-read : (b : List ℕ) (s : Sheet) → Bytes b → readOf b ≡ Good s → Written b s
-unfolding Valid
 written-read b s small e =
     let a = accepted b s e in
     let v = groupsOf b in
-    let back : figuresOf s ≡ v = ap figuresOf (sym (a .sheet)) ∙ figures-of-sheet v (groups-length b) (a .none) (a .spare) in
-    record { valid = rw back (a .none); bytes = rw back (sym (bytes-of-groups b (a .long) small)) }
+    let back : figuresOf s ≡ alone v = ap figuresOf (sym (a .sheet)) ∙ figures-of-sheet v (a .none) in
+    record { valid = read-valid b s e; bytes = rw back (sym (bytes-alone v (a .spare) ∙ bytes-of-groups b (a .long) small)) }
 
 pub one-writing : (a b : List ℕ) (s : Sheet) → Bytes a → Bytes b → readOf a ≡ Good s → readOf b ≡ Good s → a ≡ b
 one-writing a b s ha hb ea eb = written-read a s ha ea .bytes ∙ sym (written-read b s hb eb .bytes)

@@ -7,9 +7,9 @@ use lib.ListN.{length, take, drop}
 use Rattle.laws.specs.Extremes.{Least}
 use Rattle.laws.specs.Rows.{NoneBefore, Exactly}
 use Rattle.laws.proofs.Unique.{one-answer}
-use Rattle.sheet.specs.Fields.{Bad}
-use Rattle.sheet.specs.Packing.{size, groupsOf, bytesOf, bitsOfBytes, bitsOfGroups, Bytes, SpareSet}
-use Rattle.sheet.specs.Sheets.{figuresOf, readOf, writtenOf, placeOf, Valid}
+use Rattle.sheet.specs.Fields.{count, Bad}
+use Rattle.sheet.specs.Packing.{size, groupsOf, figuresIn, bytesOf, bitsOfBytes, bitsOfGroups, Bytes, SpareSet}
+use Rattle.sheet.specs.Sheets.{figuresOf, sheetFrom, readOf, writtenOf, placeOf, Valid}
 use Rattle.sheet.specs.Refusals.{readRows, writtenRows, readNumber, readField, writtenNumber, writtenField}
 use Rattle.sheet.specs.declared.Sheet.{Sheet}
 use Rattle.sheet.specs.declared.SheetRead.{SheetRead}
@@ -17,8 +17,8 @@ use Rattle.sheet.specs.declared.SheetRead.the-variants.{Good}
 use Rattle.sheet.specs.declared.SheetWritten.{SheetWritten}
 use Rattle.sheet.specs.declared.SheetWritten.the-variants.{Done}
 use Rattle.sheet.proofs.Packed.{packed}
-use Rattle.sheet.proofs.OneWriting.{one-writing, read-place, Written, written-read}
-use Rattle.sheet.proofs.Reading.{read-exactly, wrong-length-exactly, named-exactly, good-exactly}
+use Rattle.sheet.proofs.OneWriting.{figures-of-made, from-figures, one-writing, read-place, Written, written-read}
+use Rattle.sheet.proofs.Reading.{read-exactly, wrong-length-exactly, named-exactly, good-exactly, read-by-figures, from-named-exactly, from-good-exactly}
 use Rattle.sheet.proofs.Writing.{written-exactly, too-small-exactly, named-exactly as named-to-write-exactly, done-exactly, refused-unchanged, past-unchanged}
 use Rattle.sheet.proofs.CaseS.{sheetS, bytesS, s-read, s-written}
 
@@ -47,6 +47,27 @@ else-a-sheet = good-exactly
 -- What is read is a valid sheet, and the bytes are its writing.
 pub read-is-valid : (bytes : List ℕ) (s : Sheet) → Bytes bytes → readOf bytes ≡ Good s → Written bytes s
 read-is-valid = written-read
+
+-- 3 in figures of any size: the first bad field's number is given.
+pub number-3-figures : (figures : List ℕ) (k : ℕ)
+    → ((readNumber (sheetFrom figures) ≡ 3) × (readField (sheetFrom figures) ≡ k)) ↔ Least (Bad figures) k
+number-3-figures = from-named-exactly
+
+-- All other figures are a sheet's.
+pub else-figures-of-a-sheet : (figures : List ℕ) → ((s : Sheet) × (sheetFrom figures ≡ Good s)) ↔ ((k : ℕ) → ¬ Bad figures k)
+else-figures-of-a-sheet = from-good-exactly
+
+-- The figures that a sheet is made from are its figures.
+pub figures-come-back : (figures : List ℕ) (s : Sheet) → length figures ≡ count → sheetFrom figures ≡ Good s → figuresOf s ≡ figures
+figures-come-back = figures-of-made
+
+-- A valid sheet is the sheet of its figures.
+pub sheet-comes-back : (s : Sheet) → Valid s → sheetFrom (figuresOf s) ≡ Good s
+sheet-comes-back = from-figures
+
+-- 28 bytes with no spare bit set are read as the sheet of the figures in them.
+pub read-by-its-figures : (bytes : List ℕ) → Bytes bytes → length bytes ≡ size → ¬ SpareSet bytes → readOf bytes ≡ sheetFrom (figuresIn bytes)
+read-by-its-figures = read-by-figures
 
 -- A sheet written and read again is the same sheet.
 pub written-and-read : (s : Sheet) (place : List ℕ) → size ≤ length place → Valid s → readOf (take size (placeOf s place)) ≡ Good s
@@ -82,9 +103,15 @@ refused-changes-nothing = refused-unchanged
 pub past-stays : (s : Sheet) (place : List ℕ) → drop size (placeOf s place) ≡ drop size place
 past-stays = past-unchanged
 
--- One result of reading, and one result and one later content of writing.
+-- One result of each call, and one later content of writing.
 pub read-unique : (bytes : List ℕ) (r t : SheetRead) → r ≡ readOf bytes → t ≡ readOf bytes → r ≡ t
 read-unique bytes = one-answer
+
+pub figures-unique : (s : Sheet) (figures others : List ℕ) → figures ≡ figuresOf s → others ≡ figuresOf s → figures ≡ others
+figures-unique s = one-answer
+
+pub sheet-unique : (figures : List ℕ) (r t : SheetRead) → r ≡ sheetFrom figures → t ≡ sheetFrom figures → r ≡ t
+sheet-unique figures = one-answer
 
 pub write-unique : (s : Sheet) (place : List ℕ) (r t : SheetWritten) → r ≡ writtenOf s place → t ≡ writtenOf s place → r ≡ t
 write-unique s place = one-answer

@@ -1,22 +1,10 @@
--- What a sheet that is read keeps to: it is valid, and its figures are within the ranges of their fields.
-use mathlib.Core.Path.{_≡_, ap, sym, _∙_}
-use mathlib.Core.List.{List}
-use Prim.Native.Nat.{ℕ, _≤_}
+-- The figures of a valid sheet are within the ranges of their fields.
+use Prim.Native.Nat.{_≤_}
 use native.Mathlib.Omega.{arith}
 use Rattle.sheet.specs.Fields.{fields, fieldAt, least, greatest}
-use Rattle.sheet.specs.Packing.{groupsOf}
-use Rattle.sheet.specs.Sheets.{figuresOf, readOf, Valid}
+use Rattle.sheet.specs.Sheets.{figuresOf, Valid}
 use Rattle.sheet.specs.declared.Sheet.{Sheet}
-use Rattle.sheet.specs.declared.SheetRead.the-variants.{Good}
-use Rattle.sheet.proofs.OneWriting.{accepted, figures-of-sheet}
-use Rattle.sheet.proofs.Valid.{fine, groups-length}
-
-pub read-valid : (b : List ℕ) (s : Sheet) → readOf b ≡ Good s → Valid s
-unfolding Valid
-read-valid b s e =
-    let a = accepted b s e in
-    let back : figuresOf s ≡ groupsOf b = ap figuresOf (sym (a .sheet)) ∙ figures-of-sheet (groupsOf b) (groups-length b) (a .none) (a .spare) in
-    rw back (a .none)
+use Rattle.sheet.proofs.Valid.{fine}
 
 -- the figures of a valid sheet that sums and products are made of
 pub record Ranges (s : Sheet) : Type 0 where

@@ -1,5 +1,5 @@
 -- Each answer of reading, and exactly when it is given.
-use mathlib.Core.Path.{_≡_, refl, ap, sym}
+use mathlib.Core.Path.{_≡_, refl, ap, sym, _∙_}
 use mathlib.Core.Bool.{Bool, true, false}
 use mathlib.Core.List.{List}
 use mathlib.Core.Logic.{_↔_, _≢_}
@@ -14,14 +14,14 @@ use Rattle.laws.specs.Rows.{NoneBefore, Exactly}
 use Rattle.laws.proofs.Extremes.{least-only}
 use Rattle.laws.proofs.Rows.{Told, stop, past, Call, exactly, refusal-exactly}
 use Rattle.sheet.specs.Fields.{count, nth, firstBad, Bad}
-use Rattle.sheet.specs.Packing.{size, groupsOf, Bytes, SpareSet}
+use Rattle.sheet.specs.Packing.{size, groupsOf, figuresIn, Bytes, SpareSet}
 use Rattle.sheet.specs.Refusals.{readRows, readNumber, readField}
-use Rattle.sheet.specs.Sheets.{sheetOf, readGroups, readOf}
+use Rattle.sheet.specs.Sheets.{sheetOf, sheetFrom, readGroups, readOf}
 use Rattle.sheet.specs.declared.Sheet.{Sheet}
 use Rattle.sheet.specs.declared.SheetRead.{SheetRead}
 use Rattle.sheet.specs.declared.SheetRead.the-variants.{Good, NoSheet}
 use Rattle.sheet.specs.declared.ReadFault.the-variants.{WrongLength, SpareBitSet, BadField}
-use Rattle.sheet.proofs.Answers.{read-length, read-good}
+use Rattle.sheet.proofs.Answers.{read-length, read-from, from-good, figures-in}
 use Rattle.sheet.proofs.BadFields.{first-least, none-bad}
 use Rattle.sheet.proofs.Spare.{spare-set}
 
@@ -33,7 +33,7 @@ pub data Why (b : List ℕ) : SheetRead → Type 0 where
   good : length b ≡ size → nth (groupsOf b) count ≡ 0 → firstBad (groupsOf b) ≡ 0 → Why b (Good (sheetOf (groupsOf b)))
 
 pub why : (b : List ℕ) → Why b (readOf b)
-unfolding readOf readGroups
+unfolding readOf readGroups sheetFrom
 why b = go (eqb (length b) size) (eqb (nth v count) 0) (eqb (firstBad v) 0) refl refl refl
   where
     v : List ℕ
@@ -107,13 +107,21 @@ module _ (b : List ℕ) (small : Bytes b) where
       named (NoSheet SpareBitSet) e f = absurd (omega arith)
       named (NoSheet (BadField j)) e f = ap (λ (n : ℕ). NoSheet (BadField n)) f
 
+  -- no spare bit is set: their group is 0
+  clear : ¬ SpareSet b → nth (groupsOf b) count ≡ 0
+  clear h = go (eqb (nth (groupsOf b) count) 0) refl
+    where
+      go : (t : Bool) → eqb (nth (groupsOf b) count) 0 ≡ t → nth (groupsOf b) count ≡ 0
+      go true e = eqb-true (nth (groupsOf b) count) 0 e
+      go false e = absurd (h (spare-set b small .1 (eqb-false (nth (groupsOf b) count) 0 e)))
+
   -- a sheet exactly when none of the three holds
   pub good-exactly : ((s : Sheet) × (readOf b ≡ Good s)) ↔ ((length b ≡ size) × (¬ SpareSet b) × ((k : ℕ) → ¬ Bad (groupsOf b) k))
   good-exactly = (
     (λ g. go (g .0) (readOf b) (why b) (g .1)),
     (λ h. (
       sheetOf (groupsOf b),
-      sym (read-good b (groupsOf b) (h .0) refl 0 _ (clear (h .1)) (sym (none-bad (groupsOf b) .1 (h .2))) refl refl),
+      sym (read-from b _ (h .0) refl (clear (h .1))) ∙ sym (from-good (groupsOf b) 0 (sym (none-bad (groupsOf b) .1 (h .2))) _ refl refl),
     )),
   )
     where
@@ -124,9 +132,41 @@ module _ (b : List ℕ) (small : Bytes b) where
       go s r (bad-field j l z f n) e = let x : _≡_ {A = ℕ} 0 1 = cc in absurd (omega arith)
       go s r (good l z f) e = (l, (λ w. spare-set b small .0 w z), none-bad (groupsOf b) .0 f)
 
-      clear : ¬ SpareSet b → nth (groupsOf b) count ≡ 0
-      clear h = zero (eqb (nth (groupsOf b) count) 0) refl
-        where
-          zero : (t : Bool) → eqb (nth (groupsOf b) count) 0 ≡ t → nth (groupsOf b) count ≡ 0
-          zero true e = eqb-true (nth (groupsOf b) count) 0 e
-          zero false e = absurd (h (spare-set b small .1 (eqb-false (nth (groupsOf b) count) 0 e)))
+  -- 28 bytes with no spare bit set are read as the sheet of their figures
+  pub read-by-figures : length b ≡ size → ¬ SpareSet b → readOf b ≡ sheetFrom (figuresIn b)
+  read-by-figures l h = sym (read-from b _ l refl (clear h)) ∙ sym (figures-in b)
+
+-- what figures make: 3 with k exactly when k is the least bad field, and a sheet exactly when there is none
+module _ (v : List ℕ) where
+  from-cases : (P : SheetRead → Type 0) → (firstBad v ≡ 0 → P (Good (sheetOf v)))
+      → ((firstBad v ≡ 0 → ⊥) → P (NoSheet (BadField (firstBad v)))) → P (sheetFrom v)
+  unfolding sheetFrom
+  from-cases P fine named = go (eqb (firstBad v) 0) refl
+    where
+      go : (b : Bool) → eqb (firstBad v) 0 ≡ b → P (if b then Good (sheetOf v) else NoSheet (BadField (firstBad v)))
+      go true e = fine (eqb-true (firstBad v) 0 e)
+      go false e = named (eqb-false (firstBad v) 0 e)
+
+  pub from-named-exactly : (k : ℕ) → ((readNumber (sheetFrom v) ≡ 3) × (readField (sheetFrom v) ≡ k)) ↔ Least (Bad v) k
+  from-named-exactly k =
+      from-cases (λ (r : SheetRead). ((readNumber r ≡ 3) × (readField r ≡ k)) ↔ Least (Bad v) k)
+      (λ none. (
+        (λ e. absurd (omega (arith, e .0))),
+        (λ l. absurd (none-bad v .0 none k (l .holds))),
+      ))
+      (λ some. (
+        (λ e. first-least v k .0 (e .1, λ z. some (e .1 ∙ z))),
+        (λ l. (refl, first-least v k .1 l .0)),
+      ))
+
+  pub from-good-exactly : ((s : Sheet) × (sheetFrom v ≡ Good s)) ↔ ((k : ℕ) → ¬ Bad v k)
+  from-good-exactly =
+      from-cases (λ (r : SheetRead). ((s : Sheet) × (r ≡ Good s)) ↔ ((k : ℕ) → ¬ Bad v k))
+      (λ none. (
+        (λ g. none-bad v .0 none),
+        (λ h. (sheetOf v, refl)),
+      ))
+      (λ some. (
+        (λ g. let e = g .1 in let x : _≡_ {A = ℕ} 0 1 = cc in absurd (omega arith)),
+        (λ h. absurd (some (none-bad v .1 h))),
+      ))

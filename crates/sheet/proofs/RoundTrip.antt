@@ -1,5 +1,4 @@
 -- Groups and bytes, there and back.
--- Assumes nothing.
 use mathlib.Core.Path.{_≡_, ap, sym, _∙_}
 use mathlib.Core.List.{List}
 use Prim.Native.Nat.{ℕ, _^_, _<_}
@@ -24,9 +23,12 @@ again : (w u v : ℕ → ℕ) (n m : ℕ) → starts w n ≡ starts u m → ((k 
     → (k : ℕ) → k < n → cut w n (joined u (nth (listed (cut u m (joined w v n)) 0 m)) m) k ≡ v k
 again w u v n m e b k h = ap (λ (x : ℕ). cut w n x k) (regrouped w u v n m e b) ∙ cut-joined w v n b k h
 
-pub groups-of-bytes : (v : List ℕ) → length v ≡ groups → Narrow v → groupsOf (bytesOf v) ≡ v
+pub groups-of-bytes : (v : List ℕ) → Narrow v → (k : ℕ) → k < groups → nth (groupsOf (bytesOf v)) k ≡ nth v k
 unfolding groupsOf bytesOf numberOf Narrow
-groups-of-bytes v l b = sym (listed-is _ groups v l (λ k h. sym (again width eight (nth v) groups size same-size b k h)))
+groups-of-bytes v b k h =
+    listed-at _ 0 groups k h
+    ∙ ap (cut width groups (joined eight (nth (bytesOf v)) size)) (zero-add k)
+    ∙ again width eight (nth v) groups size same-size b k h
 
 pub bytes-of-groups : (s : List ℕ) → length s ≡ size → Bytes s → bytesOf (groupsOf s) ≡ s
 unfolding groupsOf bytesOf numberOf

@@ -1,20 +1,22 @@
 -- Bytes taken in a word at a time, and groups given out: one step after another, from the first to the last.
--- Assumes nothing.
 use mathlib.Core.Path.{_≡_, refl, sym, _∙_}
 use mathlib.Core.Bool.{Bool, true, false}
-use mathlib.Core.List.{List}
+use mathlib.Core.List.{List, [], _∷_, _++_}
 use Prim.Native.Nat.{ℕ, _+_, _-_, _*_, _/_, _%_, _^_, _<_, _≤_}
+use native.Mathlib.Nat.{div-one}
 use native.Mathlib.Omega.{arith}
 use borrow.Author.Tests.{ltb-true, ltb-false}
 use lib.Dec.{ltb}
-use lib.ListN.{length, set, length-set}
-use Rattle.sheet.specs.Fields.{groups, width, nth}
-use Rattle.sheet.specs.Packing.{eight, groupsOf, numberOf}
+use lib.ListN.{length, set, length-set, length-append, List·getD-append}
+use lib.Seq.{take-at, getD-at}
+use Rattle.sheet.specs.Fields.{count, groups, width, nth}
+use Rattle.sheet.specs.Bits.{joined, cut}
+use Rattle.sheet.specs.Packing.{eight, listed, groupsOf, figuresIn, numberOf}
 use Rattle.sheet.specs.Regrouping.{Mid, wordAt, filledOf, SplitTo}
 use Rattle.sheet.specs.declared.bits.Between.{Between}
 use Rattle.sheet.specs.declared.bits.Held.{Held}
-use Rattle.sheet.proofs.Regroup.{mid-start, mid-in, mid-set, mid-done, listed-is}
-use Rattle.sheet.proofs.Widths.{width-le, starts-eight, starts-width, ends-width}
+use Rattle.sheet.proofs.Regroup.{mid-start, mid-in, mid-out, mid-set, mid-done, listed-is}
+use Rattle.sheet.proofs.Widths.{width-le, starts-eight, starts-width, starts-fields, width-spare, ends-width}
 
 module _ (bytes : List ℕ) (byte : (k : ℕ) → nth bytes k < 256) where
   pub word-lt : (k : ℕ) → wordAt bytes k < 2 ^ 32
@@ -44,7 +46,7 @@ module _ (bytes : List ℕ) (byte : (k : ℕ) → nth bytes k < 256) where
     pub mid : Mid eight (nth bytes) width (nth found) (4 * full .words) i (full .held .bits) (full .held .n)
     pub enough : w ≤ full .held .n
     pub few : full .held .n < w + 32
-    pub whole : length found ≡ groups
+    pub whole : length found ≡ count
 
   pub full-is : (found : List ℕ) (between full : Between) (i w : ℕ) → w ≤ 20 → SplitTo bytes found between i
       → full ≡ filledOf bytes between w → Full found full i w
@@ -65,7 +67,7 @@ module _ (bytes : List ℕ) (byte : (k : ℕ) → nth bytes k < 256) where
           record { mid = s .mid; enough = ltb-false (between .held .n) w t; few = omega (arith, s .few); whole = s .whole }
 
   -- one group more
-  pub split-one : (found : List ℕ) (full : Between) (i w x : ℕ) (rest : Held) → Full found full i w → w ≡ width i → i < groups
+  pub split-one : (found : List ℕ) (full : Between) (i w x : ℕ) (rest : Held) → Full found full i w → w ≡ width i → i < count
       → x ≡ full .held .bits / 2 ^ (full .held .n - w) → rest .bits ≡ full .held .bits % 2 ^ (full .held .n - w)
       → rest .n ≡ full .held .n - w → SplitTo bytes (set found i x) record { held = rest; words = full .words } (i + 1)
   split-one found full i w x rest f ew h ex eb en =
@@ -78,23 +80,56 @@ module _ (bytes : List ℕ) (byte : (k : ℕ) → nth bytes k < 256) where
       }
 
   -- a word is left to take in while a group is to be given out and too few bits are held
-  pub word-left : (found : List ℕ) (between : Between) (i w : ℕ) → SplitTo bytes found between i → i < groups → w ≡ width i
+  pub word-left : (found : List ℕ) (between : Between) (i w : ℕ) → SplitTo bytes found between i → i < count → w ≡ width i
       → between .held .n < w → (between .held .n < 28) × (between .words < 7)
   word-left found between i w s h ew l = (
-    omega (arith, width-le i h),
-    omega (arith, s .mid .place, starts-eight (4 * between .words), ends-width i h),
+    omega (arith, width-le i (omega arith)),
+    omega (arith, s .mid .place, starts-eight (4 * between .words), ends-width i (omega arith)),
   )
 
-pub split-start : (bytes found : List ℕ) → length found ≡ groups
+pub split-start : (bytes found : List ℕ) → length found ≡ count
     → SplitTo bytes found record { held = record { bits = 0; n = 0 }; words = 0 } 0
 split-start bytes found e = record { mid = mid-start eight (nth bytes) width (nth found); few = omega arith; whole = e }
 
--- all groups are given out: they are the bytes' groups
-pub split-all : (bytes found : List ℕ) (between : Between) → SplitTo bytes found between groups → found ≡ groupsOf bytes
-unfolding groupsOf numberOf
+-- all fields are given out: what is held is the spare bits, and both are the bytes' groups
+pub record SplitAll (bytes found : List ℕ) (spare : ℕ) : Type 0 where
+  pub figures : found ≡ figuresIn bytes
+  pub rest : spare ≡ nth (groupsOf bytes) count
+  pub small : spare < 2 ^ 12
+
+pub split-all : (bytes found : List ℕ) (between : Between) → SplitTo bytes found between count → SplitAll bytes found (between .held .bits)
+unfolding groupsOf figuresIn numberOf
 split-all bytes found between s =
-    let b = between .held .bits in
-    let n = between .held .n in
-    let a : 4 * between .words ≡ 28 = omega (arith, s .few, s .mid .place, starts-eight (4 * between .words), starts-width) in
-    let m : Mid eight (nth bytes) width (nth found) 28 groups b n = rw a at (s .mid) in
-    listed-is _ groups found (s .whole) (mid-done eight (nth bytes) width (nth found) 28 groups b n m (starts-eight 28 ∙ sym starts-width))
+    record {
+      figures = sym (rw (← all) (take-at found (b ∷ []) count (s .whole)));
+      rest = rw (← all) (sym last);
+      small = rw twelve at (s .mid .tail .low);
+    }
+  where
+    b : ℕ
+    b = between .held .bits
+
+    twelve : between .held .n ≡ 12
+    twelve = omega (arith, s .few, s .mid .place, starts-eight (4 * between .words), starts-fields)
+
+    words : 4 * between .words ≡ 28
+    words = omega (arith, s .mid .place, starts-eight (4 * between .words), starts-fields, twelve)
+
+    last : nth (found ++ (b ∷ [])) count ≡ b
+    last = getD-at found b [] 0 count (s .whole)
+
+    before : Mid eight (nth bytes) width (nth found) 28 count b 12
+    before = rw (words, twelve) at (s .mid)
+
+    none : 12 - width count ≡ 0
+    none = omega (arith, width-spare)
+
+    after : Mid eight (nth bytes) width (nth (found ++ (b ∷ []))) 28 groups (b % 2 ^ (12 - width count)) (12 - width count)
+    after =
+        mid-out eight (nth bytes) width (nth found) (nth (found ++ (b ∷ []))) 28 count b 12 before (omega (arith, width-spare))
+        (λ k h. List·getD-append found (b ∷ []) 0 k (omega (arith, s .whole))) (last ∙ rw none (sym (div-one b)))
+
+    all : found ++ (b ∷ []) ≡ listed (cut width groups (joined eight (nth bytes) 28)) 0 groups
+    all =
+        listed-is _ groups (found ++ (b ∷ [])) (rw (length-append) (omega (arith, s .whole)))
+        (mid-done eight (nth bytes) width (nth (found ++ (b ∷ []))) 28 groups _ _ after (starts-eight 28 ∙ sym starts-width))

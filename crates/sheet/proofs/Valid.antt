@@ -1,19 +1,18 @@
 -- Figures of which none is bad: each within its values, and so within the bits of its field.
--- Assumes nothing.
 use mathlib.Core.Path.{_≡_}
 use mathlib.Core.List.{List}
 use Prim.Native.Nat.{ℕ, _<_, _^_}
 use native.Mathlib.Nat.{lt-of-le-of-lt, zero-add}
 use native.Mathlib.Omega.{arith}
 use borrow.Author.Count.{below-more}
-use lib.ListN.{length}
+use lib.ListN.{length, List·getD-eq-default}
 use lib.Pow.{pow-pos}
 use Rattle.laws.proofs.First.{is-none}
 use Rattle.sheet.specs.Bits.{cut}
 use Rattle.sheet.specs.Fields.{count, groups, width, nth, badAt, firstBad}
 use Rattle.sheet.specs.Packing.{numberOf, groupsOf, Narrow}
 use Rattle.sheet.proofs.Groups.{cut-lt}
-use Rattle.sheet.proofs.Regroup.{listed-at, listed-length}
+use Rattle.sheet.proofs.Regroup.{listed-at}
 use Rattle.sheet.proofs.Rules.{Fine, not-bad}
 use Rattle.sheet.proofs.Widths.{greatest-fits}
 
@@ -28,11 +27,11 @@ fine-narrow figures e z k h =
     (λ j l. lt-of-le-of-lt (fine figures e j l .high) (greatest-fits j l))
     (rw z (pow-pos (width count))) k (omega arith)
 
+-- past the figures of the fields there is none
+pub figures-end : (figures : List ℕ) → length figures ≡ count → nth figures count ≡ 0
+figures-end figures l = List·getD-eq-default figures 0 (omega arith)
+
 pub groups-narrow : (bytes : List ℕ) → Narrow (groupsOf bytes)
 unfolding Narrow groupsOf
 groups-narrow bytes k h =
     rw (listed-at (cut width groups (numberOf bytes)) 0 groups k h, zero-add) (cut-lt width groups (numberOf bytes) k)
-
-pub groups-length : (bytes : List ℕ) → length (groupsOf bytes) ≡ groups
-unfolding groupsOf
-groups-length bytes = listed-length _ 0 groups

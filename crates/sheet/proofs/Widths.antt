@@ -1,5 +1,4 @@
 -- What the fields, the spare bits and the bytes take: 224 bits in all, and no field more than 20.
--- Assumes nothing.
 use mathlib.Core.Path.{_≡_, refl, sym, _∙_}
 use Prim.Native.Nat.{ℕ, zero, suc, _+_, _*_, _^_, _<_, _≤_}
 use native.Mathlib.Omega.{arith}
@@ -27,6 +26,15 @@ starts-eight (suc n) = omega (arith, starts-eight n)
 pub starts-width : starts width groups ≡ 224
 unfolding starts width fieldAt fields
 starts-width = refl
+
+pub starts-fields : starts width count ≡ 212
+unfolding starts width fieldAt fields
+starts-fields = refl
+
+-- the spare bits
+pub width-spare : width count ≡ 12
+unfolding width
+width-spare = refl
 
 pub ends-width : (k : ℕ) → k < groups → starts width k + width k ≤ 224
 unfolding starts

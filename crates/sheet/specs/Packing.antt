@@ -2,6 +2,7 @@
 use mathlib.Core.Path.{_≡_}
 use Prim.Native.Nat.{ℕ, zero, suc, _+_, _^_, _<_}
 use mathlib.Core.List.{List, [], _∷_}
+use lib.ListN.{take}
 use Rattle.sheet.specs.Bits.{strung, starts, joined, cut}
 use Rattle.sheet.specs.Fields.{count, groups, width, nth}
 
@@ -36,6 +37,10 @@ numberOf bytes = joined eight (nth bytes) size
 -- the fields and the spare bits of 28 bytes
 unfoldable pub groupsOf : List ℕ → List ℕ
 groupsOf bytes = listed (cut width groups (numberOf bytes)) 0 groups
+
+-- the figures of the fields, without the spare bits
+unfoldable pub figuresIn : List ℕ → List ℕ
+figuresIn bytes = take count (groupsOf bytes)
 
 -- the 28 bytes in which fields and spare bits stand
 unfoldable pub bytesOf : List ℕ → List ℕ

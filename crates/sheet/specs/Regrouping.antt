@@ -5,7 +5,7 @@ use Prim.Native.Nat.{ℕ, _+_, _*_, _^_, _<_}
 use lib.ListN.{length}
 use Rattle.laws.specs.Choice.{if_then_else_, _<ᵇ_}
 use Rattle.sheet.specs.Bits.{starts, joined}
-use Rattle.sheet.specs.Fields.{groups, width, nth}
+use Rattle.sheet.specs.Fields.{count, width, nth}
 use Rattle.sheet.specs.Packing.{eight}
 use Rattle.sheet.specs.declared.bits.Between.{Between}
 
@@ -34,8 +34,8 @@ filledOf bytes between w =
     }
     else between
 
--- the first i groups of the bytes are split off
+-- the first i fields of the bytes are split off
 pub record SplitTo (bytes found : List ℕ) (between : Between) (i : ℕ) : Type 0 where
   pub mid : Mid eight (nth bytes) width (nth found) (4 * between .words) i (between .held .bits) (between .held .n)
   pub few : between .held .n < 32
-  pub whole : length found ≡ groups
+  pub whole : length found ≡ count

@@ -80,20 +80,21 @@ unfoldable pub levelFigure : LevelSource → ℕ
 levelFigure FromRecord = 0
 levelFigure (Given level) = level .0
 
--- the figures of a sheet, and no spare bit
+-- the figures of a sheet, in the order of its fields
 unfoldable pub figuresOf : Sheet → List ℕ
 figuresOf s =
     s .deadweight ∷ s .draft ∷ s .length ∷ s .beam ∷ s .speed ∷ bedFigure (s .bed) ∷ s .soil ∷ s .allowance ∷ s .silting
     ∷ s .interval ∷ s .lanes ∷ s .channel ∷ s .ships ∷ s .water ∷ s .handling ∷ s .wind ∷ s .cross .0 ∷ s .along .0 ∷ s .wave
     ∷ s .aids ∷ s .bottom ∷ s .cargo ∷ s .left ∷ s .right ∷ s .turn ∷ s .radius ∷ sourceFigure (s .level)
-    ∷ levelFigure (s .level) ∷ 0 ∷ []
+    ∷ levelFigure (s .level) ∷ []
+
+-- the sheet of figures, or the first field that is bad
+unfoldable pub sheetFrom : List ℕ → SheetRead
+sheetFrom figures = if firstBad figures =ᵇ 0 then Good (sheetOf figures) else NoSheet (BadField (firstBad figures))
 
 -- what fields and spare bits are read as
 unfoldable pub readGroups : List ℕ → SheetRead
-readGroups figures =
-    if nth figures count =ᵇ 0
-    then (if firstBad figures =ᵇ 0 then Good (sheetOf figures) else NoSheet (BadField (firstBad figures)))
-    else NoSheet SpareBitSet
+readGroups figures = if nth figures count =ᵇ 0 then sheetFrom figures else NoSheet SpareBitSet
 
 -- what any string of bytes is read as
 unfoldable pub readOf : List ℕ → SheetRead

@@ -4,8 +4,9 @@ ghost use mathlib.Core.List.{_++_};
 ghost use Prim.Native.Nat.{suc, _+_, _-_, _*_, _/_, _%_, _^_, _<_, _≤_};
 ghost use lib.ListN.{length, drop};
 ghost use Rattle.sheet.specs.Fields.{count, nth};
-ghost use Rattle.sheet.specs.Packing.{groupsOf, bytesOf, Narrow};
+ghost use Rattle.sheet.specs.Packing.{groupsOf, figuresIn, bytesOf, Narrow};
 ghost use Rattle.sheet.specs.Regrouping.{wordAt, filledOf, SplitTo};
+use crate::COUNT;
 use crate::fields;
 
 // Bits that are taken in and not given out yet: the low n bits of bits.
@@ -91,18 +92,18 @@ fn filled(bytes: &[u8], between: Between, w: u32) -> Between
     }
 }
 
-// Splits on from the first `from` groups up to the first `to`.
+// Splits on from the first `from` fields up to the first `to`.
 fn split_on(
     bytes: &[u8],
-    groups: &mut [u32; fields::GROUPS],
+    figures: &mut [u32; COUNT],
     start: Between,
     from: usize,
     to: usize,
 ) -> Between
     requires { ⌜ length (now bytes) ≡ 28 ⌝ }
-    requires { ⌜ SplitTo (now bytes) (now groups) start from ⌝ }
-    requires { ⌜ (from ≤ to) × (to ≤ suc count) ⌝ }
-    ensures { λ r. ⌜ SplitTo (now (bytes .entry)) (now (groups .exit)) r to ⌝ }
+    requires { ⌜ SplitTo (now bytes) (now figures) start from ⌝ }
+    requires { ⌜ (from ≤ to) × (to ≤ count) ⌝ }
+    ensures { λ r. ⌜ SplitTo (now (bytes .entry)) (now (figures .exit)) r to ⌝ }
 {
     let mut between = start;
     let mut i = from;
@@ -110,7 +111,7 @@ fn split_on(
         let width = fields::width_of(i);
         let full = filled(bytes, between, width);
         let held = full.held;
-        groups[i] = held.first(width) as u32;
+        figures[i] = held.first(width) as u32;
         let rest = held.rest(width);
         between = Between {
             held: rest,
@@ -121,35 +122,52 @@ fn split_on(
     between
 }
 
-// The fields and the spare bits of 28 bytes. Short runs of groups: the compiler lays each out flat.
-pub fn split(bytes: &[u8]) -> [u32; fields::GROUPS]
+// The figures of the fields, and the spare bits behind them.
+pub struct Parts {
+    pub figures: [u32; COUNT],
+    pub spare: u32,
+}
+
+// The fields and the spare bits of 28 bytes. Short runs of fields: the compiler lays each out flat.
+pub fn split(bytes: &[u8]) -> Parts
     requires { ⌜ length (now bytes) ≡ 28 ⌝ }
-    ensures { λ r. ⌜ r ≡ groupsOf (now (bytes .entry)) ⌝ }
+    ensures { λ r. ⌜ (r .figures ≡ figuresIn (now (bytes .entry))) × (r .spare ≡ nth (groupsOf (now (bytes .entry))) count) ⌝ }
 {
-    let mut groups = [0u32; fields::GROUPS];
+    let mut figures = [0u32; COUNT];
     let none = Held { bits: 0, n: 0 };
     let start = Between {
         held: none,
         words: 0,
     };
-    let of_ten = split_on(bytes, &mut groups, start, 0, 10);
-    let of_twenty = split_on(bytes, &mut groups, of_ten, 10, 20);
-    split_on(bytes, &mut groups, of_twenty, 20, fields::GROUPS);
-    groups
+    let of_ten = split_on(bytes, &mut figures, start, 0, 10);
+    let of_twenty = split_on(bytes, &mut figures, of_ten, 10, 20);
+    let of_all = split_on(bytes, &mut figures, of_twenty, 20, COUNT);
+    let held = of_all.held;
+    Parts {
+        figures,
+        spare: held.bits as u32,
+    }
 }
 
-// Fields and spare bits into the first 28 bytes of a place.
-pub fn join(groups: [u32; fields::GROUPS], place: &mut [u8])
-    requires { ⌜ Narrow groups ⌝ }
+// What a group holds: a field's figure, or 0 in the spare bits.
+fn group_at(figures: [u32; COUNT], i: usize) -> u64
+    ensures { λ r. ⌜ r ≡ nth figures i ⌝ }
+{
+    if i < COUNT { figures[i] as u64 } else { 0 }
+}
+
+// Fields, and no spare bit, into the first 28 bytes of a place.
+pub fn join(figures: [u32; COUNT], place: &mut [u8])
+    requires { ⌜ Narrow figures ⌝ }
     requires { ⌜ 28 ≤ length (now place) ⌝ }
-    ensures { λ _. ⌜ now (place .exit) ≡ bytesOf groups ++ drop 28 (now (place .entry)) ⌝ }
+    ensures { λ _. ⌜ now (place .exit) ≡ bytesOf figures ++ drop 28 (now (place .entry)) ⌝ }
 {
     let mut held = Held { bits: 0, n: 0 };
     let mut at: usize = 0;
     let mut i: usize = 0;
     while i < fields::GROUPS {
         let width = fields::width_of(i);
-        held = held.put(groups[i] as u64, width);
+        held = held.put(group_at(figures, i), width);
         while 8 <= held.n {
             place[at] = held.first(8) as u8;
             held = held.rest(8);

@@ -2,13 +2,12 @@
 ghost use mathlib.Core.Path.{_≡_};
 ghost use Prim.Native.Nat.{_<_, _≤_};
 ghost use Rattle.sheet.specs.Fields.{count, groups, fieldAt, width, outsideAt, firstOutside, pairBad, badAt, firstBadFrom, firstBad};
+use crate::COUNT;
 
 // A field: its bits, its least and its greatest value.
 pub struct Field(pub u32, pub u32, pub u32);
 
-// How many fields there are, and how many groups of bits, the spare bits with them.
-pub const COUNT: usize = 28;
-
+// How many groups of bits there are, the spare bits with them.
 pub const GROUPS: usize = COUNT + 1;
 
 const SPARE_BITS: u32 = 12;
@@ -64,7 +63,7 @@ pub fn width_of(i: usize) -> u32
 }
 
 // Whether field i + 1 is bad against another field.
-fn pair_bad(figures: [u32; GROUPS], i: usize) -> bool
+fn pair_bad(figures: [u32; COUNT], i: usize) -> bool
     ensures { λ r. ⌜ r ≡ pairBad figures i ⌝ }
 {
     // turn and radius are both 0, or both not
@@ -79,7 +78,7 @@ fn pair_bad(figures: [u32; GROUPS], i: usize) -> bool
 }
 
 // Whether field i + 1 is outside its values.
-fn outside(figures: [u32; GROUPS], i: usize) -> bool
+fn outside(figures: [u32; COUNT], i: usize) -> bool
     requires { ⌜ i < count ⌝ }
     ensures { λ r. ⌜ r ≡ outsideAt figures i ⌝ }
 {
@@ -89,7 +88,7 @@ fn outside(figures: [u32; GROUPS], i: usize) -> bool
 }
 
 // The number of the first field past the first `from`, up to `to`, that is outside its values; 0 where there is none.
-fn first_outside(figures: [u32; GROUPS], from: usize, to: usize) -> u8
+fn first_outside(figures: [u32; COUNT], from: usize, to: usize) -> u8
     requires { ⌜ to ≤ count ⌝ }
     ensures { λ r. ⌜ r ≡ firstOutside figures from to ⌝ }
 {
@@ -104,7 +103,7 @@ fn first_outside(figures: [u32; GROUPS], from: usize, to: usize) -> u8
 }
 
 // Whether field i + 1 is bad: outside its values, or against another field.
-fn bad_at(figures: [u32; GROUPS], i: usize) -> bool
+fn bad_at(figures: [u32; COUNT], i: usize) -> bool
     requires { ⌜ i < count ⌝ }
     ensures { λ r. ⌜ r ≡ badAt figures i ⌝ }
 {
@@ -112,7 +111,7 @@ fn bad_at(figures: [u32; GROUPS], i: usize) -> bool
 }
 
 // The number of the first bad field past the first `from`, 0 where there is none.
-fn first_bad_from(figures: [u32; GROUPS], from: usize) -> u8
+fn first_bad_from(figures: [u32; COUNT], from: usize) -> u8
     ensures { λ r. ⌜ r ≡ firstBadFrom figures from ⌝ }
 {
     let mut at = from;
@@ -127,7 +126,7 @@ fn first_bad_from(figures: [u32; GROUPS], from: usize) -> u8
 
 // The number of the first bad field, 0 where there is none. Up to field 25 none is tested against another. Short runs of
 // fields: the compiler lays each out flat, with the table's numbers in their places.
-pub fn first_bad(figures: [u32; GROUPS]) -> u8
+pub fn first_bad(figures: [u32; COUNT]) -> u8
     ensures { λ r. ⌜ r ≡ firstBad figures ⌝ }
 {
     let of_nine = first_outside(figures, 0, 9);

@@ -4,9 +4,9 @@ ghost use lib.IntN.{pos};
 ghost use Rattle.datum.specs.Datum.{belowChart};
 ghost use Rattle.sheet.specs.Packing.{Narrow};
 ghost use Rattle.sheet.specs.Sheets.{sheetOf, sheetWith, levelSourceOf, figuresOf, bedFigure, sourceFigure, levelFigure};
+use crate::COUNT;
 use crate::LevelSource;
 use crate::Sheet;
-use crate::fields::GROUPS;
 use datum::AlongCurrent;
 use datum::BelowChart;
 use datum::CrossCurrent;
@@ -56,7 +56,7 @@ fn bed_of(figure: u16) -> BelowChart
     BelowChart(figure as i32)
 }
 
-fn sheet_with(f: [u32; GROUPS], bed: BelowChart, level: LevelSource) -> Sheet
+fn sheet_with(f: [u32; COUNT], bed: BelowChart, level: LevelSource) -> Sheet
     requires { ⌜ Narrow f ⌝ }
     ensures { λ r. ⌜ r ≡ sheetWith f bed level ⌝ }
 {
@@ -91,8 +91,8 @@ fn sheet_with(f: [u32; GROUPS], bed: BelowChart, level: LevelSource) -> Sheet
     }
 }
 
-// The sheet of 28 figures, each within the bits of its field.
-pub fn sheet_of(figures: [u32; GROUPS]) -> Sheet
+// The sheet of figures, each within the bits of its field.
+pub fn sheet_of(figures: [u32; COUNT]) -> Sheet
     requires { ⌜ Narrow figures ⌝ }
     ensures { λ r. ⌜ r ≡ sheetOf figures ⌝ }
 {
@@ -101,8 +101,8 @@ pub fn sheet_of(figures: [u32; GROUPS]) -> Sheet
     sheet_with(figures, bed, level)
 }
 
-// The 28 figures of a sheet, and no spare bit.
-pub fn figures_of(sheet: Sheet) -> [u32; GROUPS]
+// The figures of a sheet.
+pub fn in_order(sheet: Sheet) -> [u32; COUNT]
     ensures { λ r. ⌜ r ≡ figuresOf sheet ⌝ }
 {
     let bed = bed_figure(sheet.bed);
@@ -138,6 +138,5 @@ pub fn figures_of(sheet: Sheet) -> [u32; GROUPS]
         sheet.radius as u32,
         source,
         given,
-        0,
     ]
 }

@@ -1,7 +1,7 @@
 // The sheet: 28 bytes, 28 fields packed most significant bit first (definition, section 1).
 ghost use mathlib.Core.Path.{_≡_};
 ghost use Rattle.sheet.specs.Refusals.{readFaultNumber, readFaultField, writeFaultNumber, writeFaultField};
-ghost use Rattle.sheet.specs.Sheets.{readOf, writtenOf, placeOf};
+ghost use Rattle.sheet.specs.Sheets.{figuresOf, sheetFrom, readOf, writtenOf, placeOf};
 use datum::AlongCurrent;
 use datum::BelowChart;
 use datum::CrossCurrent;
@@ -10,6 +10,9 @@ use datum::Level;
 mod bits;
 mod fields;
 mod figures;
+
+// How many fields a sheet has.
+pub const COUNT: usize = 28;
 
 // Where the design level comes from: off the record, or given with its figure.
 pub enum LevelSource {
@@ -140,6 +143,24 @@ pub fn write_fault_field(fault: WriteFault) -> u8
     }
 }
 
+// The figures of a sheet, in the order of its fields.
+pub fn figures_of(sheet: Sheet) -> [u32; COUNT]
+    ensures { λ r. ⌜ r ≡ figuresOf sheet ⌝ }
+{
+    figures::in_order(sheet)
+}
+
+// The sheet of figures of any size, or the first field that is bad.
+pub fn sheet_from(figures: [u32; COUNT]) -> SheetRead
+    ensures { λ r. ⌜ r ≡ sheetFrom figures ⌝ }
+{
+    let bad = fields::first_bad(figures);
+    if bad != 0 {
+        return SheetRead::NoSheet(ReadFault::BadField(bad));
+    }
+    SheetRead::Good(figures::sheet_of(figures))
+}
+
 // Any string of bytes as a sheet, or why it is none.
 pub fn read(bytes: &[u8]) -> SheetRead
     ensures { λ r. ⌜ r ≡ readOf (now (bytes .entry)) ⌝ }
@@ -147,15 +168,12 @@ pub fn read(bytes: &[u8]) -> SheetRead
     if bytes.len() != 28 {
         return SheetRead::NoSheet(ReadFault::WrongLength);
     }
-    let groups = bits::split(bytes);
-    if groups[fields::COUNT] != 0 {
+    let parts = bits::split(bytes);
+    if parts.spare != 0 {
         return SheetRead::NoSheet(ReadFault::SpareBitSet);
     }
-    let bad = fields::first_bad(groups);
-    if bad != 0 {
-        return SheetRead::NoSheet(ReadFault::BadField(bad));
-    }
-    SheetRead::Good(figures::sheet_of(groups))
+    let figures = parts.figures;
+    sheet_from(figures)
 }
 
 // Writes a sheet into the first 28 bytes of a place, or says why not and changes nothing.
@@ -165,11 +183,11 @@ pub fn write(sheet: Sheet, place: &mut [u8]) -> SheetWritten
     if place.len() < 28 {
         return SheetWritten::NotWritten(WriteFault::PlaceTooSmall);
     }
-    let groups = figures::figures_of(sheet);
-    let bad = fields::first_bad(groups);
+    let figures = figures_of(sheet);
+    let bad = fields::first_bad(figures);
     if bad != 0 {
         return SheetWritten::NotWritten(WriteFault::BadField(bad));
     }
-    bits::join(groups, place);
+    bits::join(figures, place);
     SheetWritten::Done
 }

@@ -1,5 +1,4 @@
 -- `sheet::write` meets its contract: each way out is a case of `writtenOf` and of `placeOf`.
--- Assumes nothing.
 use mathlib.Core.Path.{_≡_, sym, _∙_}
 use Rattle.sheet.specs.Fields.{firstBad}
 use Rattle.sheet.proofs.Answers.{write-small, write-bad, write-done, figures-spare}
@@ -11,7 +10,7 @@ use Rattle.sheet.proofs.write.Reads as reads
 use Rattle.sheet.proofs.write.Lts as lts
 use Rattle.sheet.proofs.bits.join.Reads as join-reads
 use Rattle.sheet.proofs.fields.first_bad.Reads as first-bad-reads
-use Rattle.sheet.proofs.figures.figures_of.Reads as figures-of-reads
+use Rattle.sheet.proofs.figures_of.Reads as figures-of-reads
 
 returns : tie.Need-returns
 returns c = write-small _ _ (c .if1 .taken)

@@ -1,5 +1,4 @@
 -- `sheet::bits::join` meets its contract: the same steps as `split`, with the two kinds of groups exchanged.
--- Assumes nothing.
 use mathlib.Core.Path.{_≡_, refl, sym, _∙_}
 use mathlib.Core.List.{List}
 use Prim.Native.Nat.{ℕ, _≤_, _<_, _-_, _+_}
@@ -30,16 +29,16 @@ record Rest (place₀ place : List ℕ) : Type 0 where
   tail : drop 28 place ≡ drop 28 place₀
 
 abbrev Inv-loop2 : tie.InvT-loop2
-Inv-loop2 place₀ given held₀ at₀ i wide place held at = Mid width (nth given) eight (nth place) (i + 1) at (held .bits) (held .n) × (held .n < 28) × Rest place₀ place
+Inv-loop2 given place₀ held₀ at₀ i wide place held at = Mid width (nth given) eight (nth place) (i + 1) at (held .bits) (held .n) × (held .n < 28) × Rest place₀ place
 
 abbrev μ-loop2 : tie.MeasureT-loop2
-μ-loop2 place₀ given held₀ at₀ i wide place held at = held .n
+μ-loop2 given place₀ held₀ at₀ i wide place held at = held .n
 
 abbrev Inv-loop : tie.InvT-loop
-Inv-loop place₀ given held₀ at₀ i₀ place held at i = Mid width (nth given) eight (nth place) i at (held .bits) (held .n) × (held .n < 8) × (i ≤ groups) × Rest place₀ place
+Inv-loop given place₀ held₀ at₀ i₀ place held at i = Mid width (nth given) eight (nth place) i at (held .bits) (held .n) × (held .n < 8) × (i ≤ groups) × Rest place₀ place
 
 abbrev μ-loop : tie.MeasureT-loop
-μ-loop place₀ given held₀ at₀ i₀ place held at i = groups - i
+μ-loop given place₀ held₀ at₀ i₀ place held at i = groups - i
 
 loop-holds : tie.Need-loop-holds Inv-loop2 μ-loop2 Inv-loop μ-loop
 loop-holds c = (mid-start _ _ _ _, omega arith, omega arith, record { same = refl; tail = refl })
@@ -47,29 +46,23 @@ loop-holds c = (mid-start _ _ _ _, omega arith, omega arith, record { same = ref
 width-of-requires : tie.Need-width-of-requires Inv-loop2 μ-loop2 Inv-loop μ-loop
 width-of-requires c κs = search needs
 
-mul-put : tie.Need-mul-put Inv-loop2 μ-loop2 Inv-loop μ-loop
-mul-put c = search needs
-
-array-read-put : tie.Need-array-read-put Inv-loop2 μ-loop2 Inv-loop μ-loop
-array-read-put c = search needs
-
-cast-put : tie.Need-cast-put Inv-loop2 μ-loop2 Inv-loop μ-loop
-cast-put c = search needs
+group-at-requires : tie.Need-group-at-requires Inv-loop2 μ-loop2 Inv-loop μ-loop
+group-at-requires c κs = search needs
 
 put-requires : tie.Need-put-requires Inv-loop2 μ-loop2 Inv-loop μ-loop
 unfolding Narrow
 put-requires c κs =
-    let o = c .before .before in (
+    let o = c .before .before .before in (
       o .loop .inv .0 .tail .low,
-      rw (c .width-of .ensures) (o .before .before .pre .0 (o .loop .i) (omega arith)),
+      rw (c .before .width-of .ensures, c .group-at .ensures) (o .before .before .pre .0 (o .loop .i) (omega arith)),
       omega (arith, width-le (o .loop .i) (omega arith)),
     )
 
 loop2-holds : tie.Need-loop2-holds Inv-loop2 μ-loop2 Inv-loop μ-loop
 unfolding Narrow
 loop2-holds c =
-    let o = c .before .before .before in (
-      rw (c .put .ensures .0, c .put .ensures .1, c .before .width-of .ensures)
+    let o = c .before .before .before .before in (
+      rw (c .put .ensures .0, c .put .ensures .1, c .before .before .width-of .ensures, c .before .group-at .ensures)
           (mid-in width _ eight _ (o .loop .i) (o .loop .at) _ _ (o .loop .inv .0) (o .before .before .pre .0 (o .loop .i) (omega arith))),
       omega (arith, width-le (o .loop .i) (omega arith)),
       record { same = refl; tail = refl },
@@ -86,7 +79,7 @@ cast-place c =
 slice-write-place : tie.Need-slice-write-place Inv-loop2 μ-loop2 Inv-loop μ-loop
 slice-write-place c =
     let d = c .before .before .before in
-    let i = d .before .before .before .before .loop .i in
+    let i = d .before .before .before .before .before .loop .i in
     omega (arith, starts-eight (d .loop2 .at), starts-le width (i + 1) groups (omega arith), starts-width)
 
 rest-requires : tie.Need-rest-requires Inv-loop2 μ-loop2 Inv-loop μ-loop
@@ -95,7 +88,7 @@ rest-requires c κs = search needs
 add-at : tie.Need-add-at Inv-loop2 μ-loop2 Inv-loop μ-loop
 add-at c =
     let d = c .before .before .before .before in
-    let i = d .before .before .before .before .loop .i in
+    let i = d .before .before .before .before .before .loop .i in
     omega (arith, starts-eight (d .loop2 .at), starts-le width (i + 1) groups (omega arith), starts-width)
 
 loop2-less : tie.Need-loop2-less Inv-loop2 μ-loop2 Inv-loop μ-loop
@@ -104,7 +97,7 @@ loop2-less c = omega (arith, c .rest .ensures .1)
 loop2-again : tie.Need-loop2-again Inv-loop2 μ-loop2 Inv-loop μ-loop
 loop2-again c =
     let d = c .before .before .before .before in
-    let o = d .before .before .before .before in
+    let o = d .before .before .before .before .before in
     let i = o .loop .i in
     let l : d .loop2 .at < 28 = omega (arith, starts-eight (d .loop2 .at), starts-le width (i + 1) groups (omega arith), starts-width) in (
       mid-set width _ eight (d .loop2 .place) (i + 1) (d .loop2 .at) (d .loop2 .held .bits) (d .loop2 .held .n) 8 (c .before .first .result)
@@ -123,7 +116,7 @@ loop-less c = search needs
 loop-again : tie.Need-loop-again Inv-loop2 μ-loop2 Inv-loop μ-loop
 loop-again c =
     let d = c .before .before in
-    let o = d .before .before .before .before in (
+    let o = d .before .before .before .before .before in (
       d .loop2 .inv .0,
       omega arith,
       omega arith,
@@ -138,7 +131,7 @@ returns : tie.Need-returns Inv-loop2 μ-loop2 Inv-loop μ-loop
 unfolding bytesOf
 returns c =
     let o = c .before in
-    let v = o .before .before .args .t1 in
+    let v = o .before .before .args .figures in
     let place = o .loop .place in
     let e : o .loop .i ≡ groups = omega arith in
     let m : Mid width (nth v) eight (nth place) groups (o .loop .at) (o .loop .held .bits) (o .loop .held .n) = rw e at (o .loop .inv .0) in
@@ -161,9 +154,7 @@ join-spec =
     μ-loop
     loop-holds
     width-of-requires
-    mul-put
-    array-read-put
-    cast-put
+    group-at-requires
     put-requires
     loop2-holds
     first-requires

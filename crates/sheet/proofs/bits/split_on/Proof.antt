@@ -1,10 +1,9 @@
 -- `sheet::bits::split_on` meets its contract: between two steps the number of the bytes read is that of the groups given out, followed by the held bits.
--- Assumes nothing.
 use mathlib.Core.Path.{_≡_}
 use Prim.Native.Nat.{_<_, _≤_, _-_}
 use native.Mathlib.Omega.{arith}
 use borrow.Author.Needs.{needs}
-use Rattle.sheet.specs.Fields.{groups}
+use Rattle.sheet.specs.Fields.{count}
 use Rattle.sheet.specs.Regrouping.{SplitTo}
 use Rattle.sheet.proofs.Splitting.{Full, full-is, split-one, word-left}
 use Rattle.sheet.proofs.Steps.{first-fits}
@@ -19,33 +18,33 @@ use Rattle.sheet.proofs.bits.filled.Reads as filled-reads
 use Rattle.sheet.proofs.fields.width_of.Reads as width-of-reads
 
 abbrev Inv-loop : tie.InvT-loop
-Inv-loop bytes groups₀ from to between₀ i₀ groups between i = SplitTo bytes groups between i × (i ≤ to)
+Inv-loop bytes figures₀ from to between₀ i₀ figures between i = SplitTo bytes figures between i × (i ≤ to)
 
 abbrev μ-loop : tie.MeasureT-loop
-μ-loop bytes groups₀ from to between₀ i₀ groups between i = to - i
+μ-loop bytes figures₀ from to between₀ i₀ figures between i = to - i
 
 -- the group is one, and not wide
-in-table : (c : tie.In-loop Inv-loop μ-loop) → c .before .loop .i < groups
+in-table : (c : tie.In-loop Inv-loop μ-loop) → c .before .loop .i < count
 in-table c = omega (arith, c .before .before .before .pre .1 .1)
 
 narrow : (c : tie.After-width-of Inv-loop μ-loop) → c .width-of .result ≤ 20
-narrow c = omega (arith, width-le (c .before .before .loop .i) (in-table (c .before)))
+narrow c = omega (arith, width-le (c .before .before .loop .i) (let h = in-table (c .before) in omega arith))
 
 -- what is known past the filling
 full : (c : tie.After-filled Inv-loop μ-loop)
     → Full (c .before .before .before .before .before .args .bytes .now)
     (λ k. c .before .before .before .before .shared-slice-known .given k .fits)
-    (c .before .before .before .loop .groups) (c .filled .result) (c .before .before .before .loop .i) (c .before .width-of .result)
+    (c .before .before .before .loop .figures) (c .filled .result) (c .before .before .before .loop .i) (c .before .width-of .result)
 full c =
     let l = c .before .before .before .loop in
-    full-is _ _ (l .groups) (l .between) (c .filled .result) (l .i) (c .before .width-of .result) (narrow (c .before)) (l .inv .0)
+    full-is _ _ (l .figures) (l .between) (c .filled .result) (l .i) (c .before .width-of .result) (narrow (c .before)) (l .inv .0)
     (c .filled .ensures)
 
 loop-holds : tie.Need-loop-holds Inv-loop μ-loop
 loop-holds c = (c .before .pre .1 .0, c .before .pre .1 .1 .0)
 
 width-of-requires : tie.Need-width-of-requires Inv-loop μ-loop
-width-of-requires c κs = in-table c
+width-of-requires c κs = let h = in-table c in omega arith
 
 filled-requires : tie.Need-filled-requires Inv-loop μ-loop
 filled-requires c κs =
@@ -54,7 +53,7 @@ filled-requires c κs =
       s .pre .0,
       (
         l .loop .inv .0 .mid .tail .low,
-        word-left (s .args .bytes .now) (λ k. l .before .shared-slice-known .given k .fits) (l .loop .groups) (l .loop .between) (l .loop .i)
+        word-left (s .args .bytes .now) (λ k. l .before .shared-slice-known .given k .fits) (l .loop .figures) (l .loop .between) (l .loop .i)
             (c .width-of .result) (l .loop .inv .0) (in-table (c .before)) (c .width-of .ensures),
       ),
     )
@@ -65,8 +64,8 @@ first-requires c κs =
     let w = narrow (c .before .before) in
     (f .enough, omega (arith, f .few))
 
-cast-groups : tie.Need-cast-groups Inv-loop μ-loop
-cast-groups c =
+cast-figures : tie.Need-cast-figures Inv-loop μ-loop
+cast-figures c =
     let f = full (c .before .before) in
     let held = c .before .before .filled .result .held in
     let w = c .before .before .before .width-of .result in
@@ -79,11 +78,11 @@ cast-groups c =
           );
     }
 
-mul-groups : tie.Need-mul-groups Inv-loop μ-loop
-mul-groups c = search needs
+mul-figures : tie.Need-mul-figures Inv-loop μ-loop
+mul-figures c = search needs
 
-element-write-groups : tie.Need-element-write-groups Inv-loop μ-loop
-element-write-groups c = in-table (c .before .before .before .before)
+element-write-figures : tie.Need-element-write-figures Inv-loop μ-loop
+element-write-figures c = in-table (c .before .before .before .before)
 
 rest-requires : tie.Need-rest-requires Inv-loop μ-loop
 rest-requires c κs =
@@ -101,7 +100,7 @@ loop-again : tie.Need-loop-again Inv-loop μ-loop
 loop-again c =
     let a = c .before .before .before in
     let l = a .before .before .before in (
-      split-one _ _ (l .loop .groups) (a .filled .result) (l .loop .i) (a .before .width-of .result) (c .before .first .result) (c .rest .result)
+      split-one _ _ (l .loop .figures) (a .filled .result) (l .loop .i) (a .before .width-of .result) (c .before .first .result) (c .rest .result)
           (full a) (a .before .width-of .ensures) (in-table (a .before .before)) (c .before .first .ensures) (c .rest .ensures .0) (c .rest .ensures .1),
       omega arith,
     )
@@ -122,9 +121,9 @@ split-on-spec =
     width-of-requires
     filled-requires
     first-requires
-    cast-groups
-    mul-groups
-    element-write-groups
+    cast-figures
+    mul-figures
+    element-write-figures
     rest-requires
     add-i
     loop-less

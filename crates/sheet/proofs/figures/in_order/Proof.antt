@@ -1,12 +1,12 @@
--- `sheet::figures::figures_of` meets its contract: each figure is widened from its own field, and loses nothing.
+-- `sheet::figures::in_order` meets its contract: each figure is widened from its own field, and loses nothing.
 -- Assumes nothing.
 use mir.Facts.{fits-widen}
 use borrow.Author.Needs.{needs}
 use Rattle.sheet.specs.Sheets.{figuresOf}
-use Rattle.sheet.proofs.figures.figures_of.Statement.{statement}
-use Rattle.sheet.proofs.figures.figures_of.Tie as tie
-use Rattle.sheet.proofs.figures.figures_of.Reads as reads
-use Rattle.sheet.proofs.figures.figures_of.Lts as lts
+use Rattle.sheet.proofs.figures.in_order.Statement.{statement}
+use Rattle.sheet.proofs.figures.in_order.Tie as tie
+use Rattle.sheet.proofs.figures.in_order.Reads as reads
+use Rattle.sheet.proofs.figures.in_order.Lts as lts
 use Rattle.sheet.proofs.figures.bed_figure.Reads as bed-figure-reads
 use Rattle.sheet.proofs.figures.level_figure.Reads as level-figure-reads
 use Rattle.sheet.proofs.figures.source_figure.Reads as source-figure-reads
@@ -96,8 +96,8 @@ returns c =
     let d = c .before .before .before .before .before .before .before .before .before .before .before .before .before .before .before .before .before .before .before .before .before .before .before in
     rw (d .level-figure .ensures, d .before .source-figure .ensures, d .before .before .bed-figure .ensures)
 
-pub figures-of-spec : {M : Type 1} → statement M
-figures-of-spec =
+pub in-order-spec : {M : Type 1} → statement M
+in-order-spec =
     tie.close
     (tie.spec
     bed-figure-requires
