@@ -1,4 +1,4 @@
-pub mod Limits
-pub mod Routes
-pub mod Cases
+mod Limits
+mod Routes
+mod Cases
 pub mod Promises

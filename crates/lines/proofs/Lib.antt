@@ -1,14 +1,4 @@
-pub mod Eaches
-pub mod Digits
-pub mod Meaning
-pub mod Placing
-pub mod Spacing
-pub mod Counting
-pub mod Signs
-pub mod Rooms
-pub mod Texts
-pub mod OneLine
-pub mod Sizes
-pub mod Keeping
-pub mod Sample
+mod Decimals
+pub mod Putting
+mod Lines
 pub mod Promises

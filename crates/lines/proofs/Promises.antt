@@ -13,12 +13,12 @@ use Rattle.laws.specs.Choice.{_≤ᵇ_}
 use Rattle.laws.proofs.Unique.{one-answer}
 use Rattle.lines.specs.Decimals.{digits, valueOf, Each, Decimal, minus, countText, numberText}
 use Rattle.lines.specs.Lines.{levelsLine, sheetLine, routeLine, room, placeAfter, bufferAfter}
-use Rattle.lines.proofs.Meaning.{digits-value, digits-decimal, decimal-only}
-use Rattle.lines.proofs.Texts.{count-text-one, number-text-one, minus-negative}
-use Rattle.lines.proofs.OneLine.{sheet-line-one, levels-line-one, route-line-one}
-use Rattle.lines.proofs.Sizes.{sheet-line-size, levels-line-size, route-line-size}
-use Rattle.lines.proofs.Keeping.{same-place-exactly, buffer-no-room, before-kept, line-stands, after-kept, length-kept, place-within}
-use Rattle.lines.proofs.Sample.{numbersS, first-line, line-s, last-line}
+use Rattle.lines.proofs.Decimals.Meaning.{digits-value, digits-decimal, decimal-only}
+use Rattle.lines.proofs.Decimals.Texts.{count-text-one, number-text-one, minus-negative}
+use Rattle.lines.proofs.Lines.OneLine.{sheet-line-one, levels-line-one, route-line-one}
+use Rattle.lines.proofs.Lines.Sizes.{sheet-line-size, levels-line-size, route-line-size}
+use Rattle.lines.proofs.Putting.Keeping.{same-place-exactly, buffer-no-room, before-kept, line-stands, after-kept, length-kept, place-within}
+use Rattle.lines.proofs.Lines.Sample.{numbersS, first-line, line-s, last-line}
 
 -- The digits of a number mean it.
 pub digits-mean : (n : ℕ) → valueOf (digits n) ≡ n

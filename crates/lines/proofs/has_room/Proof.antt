@@ -3,7 +3,7 @@ use native.Mathlib.Omega.{arith}
 use Prim.Native.Nat.{_+_}
 use borrow.Author.Tests.{lt-leb}
 use Rattle.lines.specs.Lines.{room}
-use Rattle.lines.proofs.Rooms.{room-from}
+use Rattle.lines.proofs.Putting.Rooms.{room-from}
 use Rattle.lines.proofs.has_room.Statement.{statement}
 use Rattle.lines.proofs.has_room.Tie as tie
 

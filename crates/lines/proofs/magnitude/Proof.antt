@@ -6,7 +6,7 @@ use lib.IntN.{ℤ, natAbs}
 use mir.Syntax.{w32, w64}
 use mir.Val.{SFits, toZ, ofZ}
 use mir.Facts.{toZ-ofZ, fits-natAbs, sfits-toZ, fits-ofZ}
-use Rattle.lines.proofs.Signs.{flipped, Flipped, flip, no-sign}
+use Rattle.lines.proofs.Putting.Signs.{flipped, Flipped, flip, no-sign}
 use Rattle.lines.proofs.magnitude.Statement.{statement}
 use Rattle.lines.proofs.magnitude.Tie as tie
 use Rattle.lines.proofs.magnitude.Reads as reads

@@ -4,7 +4,7 @@ use native.Mathlib.Omega.{arith}
 use borrow.Author.Needs.{needs}
 use lib.ListN.{length}
 use Rattle.lines.specs.Decimals.{numberText}
-use Rattle.lines.proofs.Spacing.{two-runs}
+use Rattle.lines.proofs.Putting.Spacing.{two-runs}
 use Rattle.lines.proofs.put_numbers.Statement.{statement}
 use Rattle.lines.proofs.put_numbers.Tie as tie
 

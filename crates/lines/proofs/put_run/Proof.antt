@@ -11,7 +11,7 @@ use mir.Syntax.{w32}
 use mir.Val.{toZ, ofZ}
 use mir.Facts.{toZ-ofZ}
 use Rattle.lines.specs.Decimals.{numberText}
-use Rattle.lines.proofs.Spacing.{Words, no-words, next-word}
+use Rattle.lines.proofs.Putting.Spacing.{Words, no-words, next-word}
 use Rattle.lines.proofs.put_run.Statement.{statement}
 use Rattle.lines.proofs.put_run.Tie as tie
 

@@ -2,7 +2,7 @@
 use mathlib.Core.Path.{sym, _∙_}
 use borrow.Author.Tests.{not-true, not-false, leb-true}
 use Rattle.lines.specs.Lines.{sheetLine}
-use Rattle.lines.proofs.Rooms.{no-room, with-room}
+use Rattle.lines.proofs.Putting.Rooms.{no-room, with-room}
 use borrow.Author.Needs.{needs}
 use Rattle.lines.proofs.put_sheet_line.Statement.{statement}
 use Rattle.lines.proofs.put_sheet_line.Tie as tie

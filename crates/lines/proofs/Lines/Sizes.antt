@@ -10,9 +10,9 @@ use mir.Syntax.{w32}
 use mir.Val.{SFits}
 use Rattle.lines.specs.Decimals.{Each, countText, numberText}
 use Rattle.lines.specs.Lines.{newline, letterL, letterR, spaced, lineText, levelsLine, sheetLine, routeLine}
-use Rattle.lines.proofs.Eaches.{each-map}
-use Rattle.lines.proofs.Counting.{count-at-most}
-use Rattle.lines.proofs.Signs.{number-at-most}
+use Rattle.lines.proofs.Decimals.Eaches.{each-map}
+use Rattle.lines.proofs.Putting.Counting.{count-at-most}
+use Rattle.lines.proofs.Putting.Signs.{number-at-most}
 
 spaced-at-most : (k : ℕ) (words : List (List ℕ)) → Each (λ (word : List ℕ). length word ≤ k) words → length (spaced words) ≤ (k + 1) * length words
 unfolding spaced

@@ -8,8 +8,8 @@ use lib.IntN.{ℤ, pos, negsuc}
 use lib.ListN.{getD}
 use Rattle.lines.specs.Decimals.{Each, countText, numberText}
 use Rattle.lines.specs.Lines.{space, newline, letterL, letterR, spaced, lineText, levelsLine, sheetLine, routeLine}
-use Rattle.lines.proofs.Eaches.{each-implied}
-use Rattle.lines.proofs.Texts.{DigitByte, count-bytes, count-text-one, number-text-one, tail}
+use Rattle.lines.proofs.Decimals.Eaches.{each-implied}
+use Rattle.lines.proofs.Decimals.Texts.{DigitByte, count-bytes, count-text-one, number-text-one, tail}
 
 -- a word with neither a space nor a newline
 abbrev Solid : List ℕ → Type 0

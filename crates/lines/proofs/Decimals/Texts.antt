@@ -9,8 +9,8 @@ use lib.IntN.{ℤ, pos, negsuc}
 use mir.Facts.{ltb-yes}
 use lib.Signed.{_<ℤ_}
 use Rattle.lines.specs.Decimals.{digits, valueOf, Each, zeroByte, minus, byteOf, countText, numberText}
-use Rattle.lines.proofs.Eaches.{each-map, each-member}
-use Rattle.lines.proofs.Meaning.{digits-value, digits-each}
+use Rattle.lines.proofs.Decimals.Eaches.{each-map, each-member}
+use Rattle.lines.proofs.Decimals.Meaning.{digits-value, digits-each}
 
 -- the bytes `0` to `9`
 abbrev pub DigitByte : ℕ → Type 0

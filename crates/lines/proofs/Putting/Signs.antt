@@ -14,8 +14,8 @@ use mir.Val.{SFits}
 use lib.ListN.{length, set}
 use Rattle.lines.specs.Decimals.{minus, countText, numberText}
 use Rattle.lines.specs.Lines.{Put}
-use Rattle.lines.proofs.Counting.{count-at-most}
-use Rattle.lines.proofs.Placing.{byte-then}
+use Rattle.lines.proofs.Putting.Counting.{count-at-most}
+use Rattle.lines.proofs.Putting.Placing.{byte-then}
 
 -- -1 less a number
 abbrev pub flipped : ℤ → ℤ

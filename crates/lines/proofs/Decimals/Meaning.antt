@@ -6,8 +6,8 @@ use Prim.Native.Nat.{ℕ, zero, suc, _+_, _*_, _/_, _%_, _≤_, _<_}
 use native.Mathlib.Omega.{arith}
 use lib.ListN.{length, getD, length-append, List·getD-append}
 use Rattle.lines.specs.Decimals.{digits, valueBehind, valueOf, Each, Decimal}
-use Rattle.lines.proofs.Eaches.{each-append, each-second, each-first}
-use Rattle.lines.proofs.Digits.{digits-one, digits-more, by-tens, places-some}
+use Rattle.lines.proofs.Decimals.Eaches.{each-append, each-second, each-first}
+use Rattle.lines.proofs.Decimals.Digits.{digits-one, digits-more, by-tens, places-some}
 
 -- a last digit more
 pub value-last : (ds : List ℕ) (read d : ℕ) → valueBehind read (ds ++ d ∷ []) ≡ 10 * valueBehind read ds + d
