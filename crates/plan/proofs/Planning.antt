@@ -1,5 +1,4 @@
 -- Each way out of the call from C, exactly when it is taken, and what it leaves in the place.
--- Assumes nothing.
 use mathlib.Core.Path.{_≡_, refl, ap, sym, _∙_}
 use mathlib.Core.Bool.{Bool, true, false}
 use mathlib.Core.List.{List, [], _++_}

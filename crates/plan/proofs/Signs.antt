@@ -1,5 +1,4 @@
 -- The bits of a signed number: those of the number, or of what is left of all ones.
--- Assumes nothing.
 use Prim.Native.Nat.{ℕ, suc, _-_, _≤_}
 use native.Mathlib.Omega.{arith}
 use mathlib.Core.Path.{_≡_, refl}
