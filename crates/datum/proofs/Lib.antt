@@ -1,3 +1,3 @@
 pub mod Signs
-pub mod Natural
+mod Natural
 pub mod Promises

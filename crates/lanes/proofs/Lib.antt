@@ -1,2 +1,2 @@
-pub mod Traffic
+mod Traffic
 pub mod Promises
