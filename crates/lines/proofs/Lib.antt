@@ -1,13 +1,4 @@
-pub mod Digits
-pub mod Meaning
-pub mod Placing
-pub mod Spacing
-pub mod Counting
-pub mod Signs
-pub mod Fitting
-pub mod Texts
-pub mod OneLine
-pub mod Sizes
-pub mod Keeping
-pub mod Sample
+mod decimals
+mod putting
+mod wholes
 pub mod Promises

@@ -15,12 +15,12 @@ use Rattle.laws.specs.Each.{Each}
 use Rattle.lines.specs.Decimals.{digits, valueOf, Decimal, minus, countText, numberText}
 use Rattle.design.specs.Numbers.{numberCount}
 use Rattle.lines.specs.Lines.{levelsLine, sheetLine, routeLine, lineBytes, placeAfter, bufferAfter}
-use Rattle.lines.proofs.Meaning.{digits-value, digits-decimal, decimal-only}
-use Rattle.lines.proofs.Texts.{count-text-one, number-text-one, minus-negative}
-use Rattle.lines.proofs.OneLine.{sheet-line-one, levels-line-one, route-line-one}
-use Rattle.lines.proofs.Sizes.{sheet-line-size, levels-line-size, route-line-size}
-use Rattle.lines.proofs.Keeping.{same-place-exactly, buffer-unfit, before-kept, line-stands, after-kept, length-kept, place-within}
-use Rattle.lines.proofs.Sample.{numbersS, first-line, line-s, last-line}
+use Rattle.lines.proofs.decimals.Meaning.{digits-value, digits-decimal, decimal-only}
+use Rattle.lines.proofs.decimals.Texts.{count-text-one, number-text-one, minus-negative}
+use Rattle.lines.proofs.wholes.OneLine.{sheet-line-one, levels-line-one, route-line-one}
+use Rattle.lines.proofs.wholes.Sizes.{sheet-line-size, levels-line-size, route-line-size}
+use Rattle.lines.proofs.putting.Keeping.{same-place-exactly, buffer-unfit, before-kept, line-stands, after-kept, length-kept, place-within}
+use Rattle.lines.proofs.wholes.Sample.{numbersS, first-line, line-s, last-line}
 
 -- The digits of a number mean it.
 pub digits-mean : (n : ℕ) → valueOf (digits n) ≡ n

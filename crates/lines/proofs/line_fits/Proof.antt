@@ -3,7 +3,7 @@ use native.Mathlib.Omega.{arith}
 use Prim.Native.Nat.{_+_}
 use borrow.Author.Tests.{lt-leb}
 use Rattle.lines.specs.Lines.{lineBytes}
-use Rattle.lines.proofs.Fitting.{fits-from}
+use Rattle.lines.proofs.putting.Fitting.{fits-from}
 use Rattle.lines.proofs.line_fits.Statement.{statement}
 use Rattle.lines.proofs.line_fits.Tie as tie
 

@@ -4,7 +4,7 @@ use mathlib.Core.Path.{_≡_}
 use native.Mathlib.Omega.{arith}
 use lib.ListN.{length}
 use Rattle.lines.specs.Decimals.{digits}
-use Rattle.lines.proofs.Digits.{places-one, places-two, places-three, places-four, places-four-more, places-at-most}
+use Rattle.lines.proofs.decimals.Digits.{places-one, places-two, places-three, places-four, places-four-more, places-at-most}
 use Rattle.lines.proofs.places.Statement.{statement}
 use Rattle.lines.proofs.places.Tie as tie
 

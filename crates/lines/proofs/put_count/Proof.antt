@@ -1,7 +1,7 @@
 -- `lines::put_count` meets its contract: a way out for each length up to four, and one for the others.
 use native.Mathlib.Omega.{arith}
 use lib.ListN.{length-set}
-use Rattle.lines.proofs.Counting.{two-stand, three-stand, four-stand}
+use Rattle.lines.proofs.putting.Counting.{two-stand, three-stand, four-stand}
 use borrow.Author.Needs.{needs}
 use Rattle.lines.proofs.put_count.Statement.{statement}
 use Rattle.lines.proofs.put_count.Tie as tie

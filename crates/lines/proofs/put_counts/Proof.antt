@@ -6,7 +6,7 @@ use native.Mathlib.Omega.{arith}
 use borrow.Author.Needs.{needs}
 use lib.ListN.{length, length-set}
 use Rattle.lines.specs.Decimals.{countText}
-use Rattle.lines.proofs.Spacing.{Words, no-words, next-word, all-words}
+use Rattle.lines.proofs.putting.Spacing.{Words, no-words, next-word, all-words}
 use Rattle.lines.proofs.put_counts.Statement.{statement}
 use Rattle.lines.proofs.put_counts.Tie as tie
 

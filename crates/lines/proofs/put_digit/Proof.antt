@@ -1,6 +1,6 @@
 -- `lines::put_digit` meets its contract: a count below ten is its own digit.
 use native.Mathlib.Omega.{arith}
-use Rattle.lines.proofs.Counting.{one-stands}
+use Rattle.lines.proofs.putting.Counting.{one-stands}
 use borrow.Author.Needs.{needs}
 use Rattle.lines.proofs.put_digit.Statement.{statement}
 use Rattle.lines.proofs.put_digit.Tie as tie

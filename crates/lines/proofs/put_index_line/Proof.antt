@@ -1,7 +1,7 @@
 -- `lines::put_index_line` meets its contract: the index, the numbers behind it, the newline after them.
 use native.Mathlib.Omega.{arith}
 use lib.ListN.{length-set}
-use Rattle.lines.proofs.Placing.{put-on, then-byte}
+use Rattle.lines.proofs.putting.Placing.{put-on, then-byte}
 use borrow.Author.Needs.{needs}
 use Rattle.lines.proofs.put_index_line.Statement.{statement}
 use Rattle.lines.proofs.put_index_line.Tie as tie

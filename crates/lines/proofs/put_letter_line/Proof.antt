@@ -1,5 +1,5 @@
 -- `lines::put_letter_line` meets its contract: the letter, the counts behind it, the newline after them.
-use Rattle.lines.proofs.Placing.{byte-then, then-byte}
+use Rattle.lines.proofs.putting.Placing.{byte-then, then-byte}
 use native.Mathlib.Omega.{arith}
 use borrow.Author.Needs.{needs}
 use lib.ListN.{length-set}

@@ -2,7 +2,7 @@
 use mathlib.Core.Path.{sym, _∙_}
 use borrow.Author.Tests.{not-true, not-false, leb-true}
 use Rattle.lines.specs.Lines.{levelsLine}
-use Rattle.lines.proofs.Fitting.{unfit, fitting}
+use Rattle.lines.proofs.putting.Fitting.{unfit, fitting}
 use borrow.Author.Needs.{needs}
 use Rattle.lines.proofs.put_levels_line.Statement.{statement}
 use Rattle.lines.proofs.put_levels_line.Tie as tie

@@ -6,8 +6,8 @@ use native.Mathlib.Omega.{arith}
 use borrow.Author.Needs.{needs}
 use lib.ListN.{length, length-set}
 use Rattle.lines.specs.Decimals.{digits}
-use Rattle.lines.proofs.Digits.{places-at-most, places-some}
-use Rattle.lines.proofs.Counting.{Standing, none-stands, one-more-stands, all-stands}
+use Rattle.lines.proofs.decimals.Digits.{places-at-most, places-some}
+use Rattle.lines.proofs.putting.Counting.{Standing, none-stands, one-more-stands, all-stands}
 use Rattle.lines.proofs.put_long_count.Statement.{statement}
 use Rattle.lines.proofs.put_long_count.Tie as tie
 

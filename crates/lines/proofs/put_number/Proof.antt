@@ -4,7 +4,7 @@ use lib.IntN.{natAbs}
 use mir.Syntax.{w32}
 use mir.Val.{toZ, ofZ}
 use mir.Facts.{toZ-ofZ}
-use Rattle.lines.proofs.Signs.{put-negative, put-plain}
+use Rattle.lines.proofs.putting.Signs.{put-negative, put-plain}
 use native.Mathlib.Omega.{arith}
 use lib.ListN.{length-set}
 use borrow.Author.Needs.{needs}

@@ -6,7 +6,7 @@ use borrow.Author.Needs.{needs}
 use lib.ListN.{length}
 use Rattle.lines.specs.Decimals.{numberText}
 use Rattle.design.specs.Numbers.{numberCount}
-use Rattle.lines.proofs.Spacing.{two-runs}
+use Rattle.lines.proofs.putting.Spacing.{two-runs}
 use Rattle.lines.proofs.put_numbers.Statement.{statement}
 use Rattle.lines.proofs.put_numbers.Tie as tie
 

@@ -12,7 +12,7 @@ use mir.Val.{toZ, ofZ}
 use mir.Facts.{toZ-ofZ}
 use Rattle.lines.specs.Decimals.{numberText}
 use Rattle.design.specs.Numbers.{numberCount}
-use Rattle.lines.proofs.Spacing.{Words, no-words, next-word}
+use Rattle.lines.proofs.putting.Spacing.{Words, no-words, next-word}
 use Rattle.lines.proofs.put_run.Statement.{statement}
 use Rattle.lines.proofs.put_run.Tie as tie
 

@@ -12,8 +12,8 @@ use mir.Val.{SFits}
 use lib.ListN.{length, set}
 use Rattle.lines.specs.Decimals.{minus, countText, numberText}
 use Rattle.lines.specs.Lines.{Put}
-use Rattle.lines.proofs.Counting.{count-at-most}
-use Rattle.lines.proofs.Placing.{byte-then}
+use Rattle.lines.proofs.putting.Counting.{count-at-most}
+use Rattle.lines.proofs.putting.Placing.{byte-then}
 
 -- without its sign a 32-bit number has at most ten digits
 pub size-at-most : (z : ℤ) → SFits w32 z → natAbs z ≤ 2147483648

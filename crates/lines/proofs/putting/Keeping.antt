@@ -9,7 +9,7 @@ use borrow.Author.Tests.{le-leb, lt-leb, leb-true, leb-false}
 use lib.Dec.{leb}
 use lib.ListN.{length, take, drop}
 use Rattle.lines.specs.Lines.{lineBytes, withText, placeAfter, bufferAfter}
-use Rattle.lines.proofs.Placing.{put-length, before-stays, text-stands, after-stays}
+use Rattle.lines.proofs.putting.Placing.{put-length, before-stays, text-stands, after-stays}
 
 module _ (line : List ℕ) (at : ℕ) (buffer : List ℕ) where
   pub place-fitting : at + lineBytes ≤ length buffer → placeAfter line at buffer ≡ at + length line

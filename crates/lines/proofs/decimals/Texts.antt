@@ -11,7 +11,7 @@ use lib.Signed.{_<ℤ_}
 use Rattle.laws.specs.Each.{Each}
 use Rattle.lines.specs.Decimals.{digits, valueOf, zeroByte, minus, byteOf, countText, numberText}
 use Rattle.laws.proofs.Each.{each-map, each-member}
-use Rattle.lines.proofs.Meaning.{digits-value, digits-each}
+use Rattle.lines.proofs.decimals.Meaning.{digits-value, digits-each}
 
 -- the bytes `0` to `9`
 abbrev pub DigitByte : ℕ → Type 0

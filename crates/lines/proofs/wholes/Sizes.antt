@@ -13,8 +13,8 @@ use Rattle.lines.specs.Decimals.{countText, numberText}
 use Rattle.design.specs.Numbers.{numberCount}
 use Rattle.lines.specs.Lines.{newline, letterL, letterR, spaced, lineText, levelsLine, sheetLine, routeLine}
 use Rattle.laws.proofs.Each.{each-map}
-use Rattle.lines.proofs.Counting.{count-at-most}
-use Rattle.lines.proofs.Signs.{number-at-most}
+use Rattle.lines.proofs.putting.Counting.{count-at-most}
+use Rattle.lines.proofs.putting.Signs.{number-at-most}
 
 spaced-at-most : (k : ℕ) (words : List (List ℕ)) → Each (λ (word : List ℕ). length word ≤ k) words → length (spaced words) ≤ (k + 1) * length words
 unfolding spaced

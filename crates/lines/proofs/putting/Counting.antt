@@ -8,7 +8,7 @@ use lib.ListN.{length, take, drop, set, getD, take-append-drop, length-map}
 use lib.Seq.{take-suc, set-at, length-take-le}
 use Rattle.lines.specs.Decimals.{digits, byteOf, countText}
 use Rattle.lines.specs.Lines.{withText, Put}
-use Rattle.lines.proofs.Digits.{digits-one, digits-more, places-at-most, places-more, places-one, places-two, places-three, places-four}
+use Rattle.lines.proofs.decimals.Digits.{digits-one, digits-more, places-at-most, places-more, places-one, places-two, places-three, places-four}
 
 pub count-length : (n : ℕ) → length (countText n) ≡ length (digits n)
 unfolding countText

@@ -7,7 +7,7 @@ use native.Mathlib.Omega.{arith}
 use lib.ListN.{length, take, drop, getD, set, length-drop, take-append-drop}
 use lib.Seq.{take-suc, take-all}
 use Rattle.lines.specs.Lines.{space, spaced, Put}
-use Rattle.lines.proofs.Placing.{put-none, put-on, then-byte}
+use Rattle.lines.proofs.putting.Placing.{put-none, put-on, then-byte}
 
 pub spaced-append : (first second : List (List ℕ)) → spaced (first ++ second) ≡ spaced first ++ spaced second
 unfolding spaced

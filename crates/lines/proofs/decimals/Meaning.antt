@@ -8,7 +8,7 @@ use lib.ListN.{length, getD, length-append, List·getD-append}
 use Rattle.laws.specs.Each.{Each}
 use Rattle.lines.specs.Decimals.{digits, valueBehind, valueOf, Decimal}
 use Rattle.laws.proofs.Each.{each-append, each-second, each-first}
-use Rattle.lines.proofs.Digits.{digits-one, digits-more, by-tens, places-some}
+use Rattle.lines.proofs.decimals.Digits.{digits-one, digits-more, by-tens, places-some}
 
 -- a last digit more
 pub value-last : (ds : List ℕ) (read d : ℕ) → valueBehind read (ds ++ d ∷ []) ≡ 10 * valueBehind read ds + d

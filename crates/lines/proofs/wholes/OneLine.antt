@@ -10,7 +10,7 @@ use Rattle.laws.specs.Each.{Each}
 use Rattle.lines.specs.Decimals.{countText, numberText}
 use Rattle.lines.specs.Lines.{space, newline, letterL, letterR, spaced, lineText, levelsLine, sheetLine, routeLine}
 use Rattle.laws.proofs.Each.{each-implied}
-use Rattle.lines.proofs.Texts.{DigitByte, count-bytes, count-text-one, number-text-one, tail}
+use Rattle.lines.proofs.decimals.Texts.{DigitByte, count-bytes, count-text-one, number-text-one, tail}
 
 -- a word with neither a space nor a newline
 abbrev Solid : List ℕ → Type 0
