@@ -19,7 +19,7 @@ use Rattle.width.specs.Comparing.{changed, Harder as HarderWidth}
 use Rattle.width.specs.declared.Stretch.{Stretch as WidthStretch}
 use Rattle.width.specs.declared.EntriesFound.{EntriesFound}
 use Rattle.width.proofs.Refusals.{entries-exactly}
-use Rattle.width.proofs.Growth.{never-narrower, figure-rises}
+use Rattle.width.proofs.Promises.{harder-never-narrower, figure-no-less}
 use Rattle.design.specs.Design.{widthStretch, lanesFor}
 use Rattle.design.specs.Refusals.{sheetIn, levelIn, EntryMissing}
 use Rattle.design.specs.Answers.{stretchOf, FiguresAre}
@@ -105,8 +105,8 @@ module _ (easy hard table : List ℕ) (lanes : lanesFor (sheetIn easy) ≡ lanes
         let s' = sheetIn hard in
         subst⁻¹ (λ (n : ℕ). n ≤ widthFigure w' found')
         (ap₂ (λ (water speed : ℕ). widthFigure w (entriesOf water speed (s .cross) (s .wave))) (c .same 14 refl) (c .same 5 refl))
-        (figure-rises w w' _ _
-        (never-narrower w w' (s' .water) (s' .speed) (s .cross) (s' .cross) (s .wave) (s' .wave) width-harder (c .rises 17 refl) (c .rises 19 refl)) has)
+        (figure-no-less w w' _ _
+        (harder-never-narrower w w' (s' .water) (s' .speed) (s .cross) (s' .cross) (s .wave) (s' .wave) width-harder (c .rises 17 refl) (c .rises 19 refl)) has)
 
     pub width-rises : ¬ EntryMissing (sheetIn hard) → width f ≤ℤ width g
     width-rises there =

@@ -19,10 +19,13 @@ use Rattle.gauge.specs.declared.LevelRead.the-variants.{Found, NoLevel}
 use Rattle.gauge.proofs.Refusals.{NotFound}
 use Rattle.lanes.specs.declared.Lanes.{Lanes}
 use Rattle.depth.specs.Depth.{depthNumber}
+use Rattle.depth.specs.Reasons.{depthRows}
 use Rattle.depth.specs.Worksheet.{workDepth}
 use Rattle.depth.specs.declared.Stretch.{Stretch as DepthStretch}
 use Rattle.depth.specs.declared.Depth.{Depth}
-use Rattle.depth.specs.declared.Depth.the-variants.{Cut, NoCut}
+use Rattle.depth.specs.declared.DepthFault.{DepthFault}
+use Rattle.depth.specs.declared.Depth.the-variants.{NoCut}
+use Rattle.depth.proofs.Refusals.{Worked, depths, depth-told}
 use Rattle.width.specs.Bands.{entriesOf}
 use Rattle.width.specs.Bends.{bendOf}
 use Rattle.width.specs.Width.{widthFigure}
@@ -40,7 +43,7 @@ use Rattle.design.specs.Refusals.{sheetIn, levelIn, rows}
 use Rattle.design.specs.Answers.{stretchOf, wideningIn, FiguresAre, NamesFirst}
 use Rattle.design.specs.declared.Answer.{Answer}
 use Rattle.design.specs.declared.Answer.the-variants.{Answered, Refused}
-use Rattle.design.proofs.rows.Rooms.{levelsFrom, offRecord, level-told, depthRows, Worked, NoDepth, depths, depth-told}
+use Rattle.design.proofs.rows.Rooms.{levelsFrom, offRecord, level-told}
 
 -- what is told of a design: an answered one has the figures of its sheet at its level, a refused one names the first bad field
 abbrev pub Right : List ℕ → List ℕ → Answer → Type 0
@@ -102,15 +105,14 @@ module _ (bytes table : List ℕ) where
     abbrev atDepth : Depth → Answer
     atDepth = byDepth sheet level lanes (wideningIn sheet) entries
 
-    depth-handed : (d : Depth) → NoDepth d → Handed (depthNumber d) (atDepth d)
-    depth-handed (Cut f) none = absurd none
-    depth-handed (NoCut fault) none = (refl, tt)
+    depth-handed : (d : Depth) → (fault : DepthFault) × (d ≡ NoCut fault) → Handed (depthNumber d) (atDepth d)
+    depth-handed d none = rw (none .1) (refl, tt)
 
     past-entries-told : From 13 (pastEntries sheet level lanes (wideningIn sheet) entries)
     unfolding pastEntries rows
     past-entries-told =
         onward (depths stretch) (designs bytes table) atDepth depth-handed (depthRows stretch) [] (workDepth stretch) (depth-told stretch)
-        (λ worked. subst⁻¹ (λ (d : Depth). Told (designs bytes table) [] (atDepth d)) (worked .found) (refl, figures-are (workDepth stretch) worked))
+        (λ worked. subst⁻¹ (λ (d : Depth). Told (designs bytes table) [] (atDepth d)) (worked .is) (refl, figures-are (workDepth stretch) worked))
 
   -- 8
   abbrev atEntries : EntriesFound → Answer
