@@ -3,7 +3,7 @@
 use mir.Syntax.{w64}
 use mir.Val.{toZ, ofZ}
 use mir.Facts.{fits-natAbs, sfits-toZ, fits-ofZ}
-use Rattle.lines.proofs.Signs.{no-sign}
+use Rattle.laws.proofs.Signs.{no-sign}
 use borrow.Author.Needs.{needs}
 use Rattle.channel.proofs.input.got_of.Statement.{statement}
 use Rattle.channel.proofs.input.got_of.Tie as tie
