@@ -57,8 +57,10 @@ entriesBy water band (Tenths cross) (Tenths wave) = Entered (record { water = wa
 entriesBy water band (Tenths cross) Blank = NoEntry
 entriesBy water band Blank wave = NoEntry
 
+-- in a water and a speed band
 abbrev pub entriesIn : Water → SpeedBand → CrossCurrent → ℕ → EntriesFound
 entriesIn water band cross wave = entriesBy water band (crossEntry water band cross) (waveEntry water band wave)
 
+-- of a sheet's water, speed, cross current and wave
 unfoldable pub entriesOf : ℕ → ℕ → CrossCurrent → ℕ → EntriesFound
 entriesOf water speed cross wave = entriesIn (waterOf water) (speedBandOf speed) cross wave

@@ -149,17 +149,15 @@ pub fn items_of(stretch: Stretch, entries: Entries) -> Items
 {
     let water = entries.water;
     let band = entries.band;
-    let along = stretch.along;
-    let sailing = stretch.sailing;
     Items {
         lane: additions::lane_item(stretch.handling),
         wind: additions::wind_item(band, stretch.wind),
         cross: entries.cross,
-        along: bands::along_item(band, along),
+        along: bands::along_item(band, stretch.along),
         wave: entries.wave,
         aids: additions::aids_item(stretch.aids),
-        bed: additions::bed_item(stretch.draft, sailing, stretch.bottom),
-        depth: additions::depth_item(water, stretch.draft, sailing),
+        bed: additions::bed_item(stretch.draft, stretch.sailing, stretch.bottom),
+        depth: additions::depth_item(water, stretch.draft, stretch.sailing),
         cargo: additions::cargo_item(water, stretch.cargo),
         banks: additions::banks_item(band, stretch.left, stretch.right),
         passing: additions::passing_item(water, band),
