@@ -20,5 +20,5 @@ pub mod OneWriting
 pub mod Reading
 pub mod Writing
 pub mod Ranges
-pub mod CaseS
+pub mod Starred
 pub mod Promises

@@ -13,7 +13,7 @@ use Rattle.laws.specs.Choice.{if_then_else_}
 use Rattle.sheet.specs.Bits.{cut}
 use Rattle.sheet.specs.Fields.{groups, count, fields, fieldAt, width, nth, greatest, pairBad, firstBad}
 use Rattle.sheet.specs.Packing.{size, eight, listed, groupsOf, bytesOf, Bytes}
-use Rattle.sheet.specs.Sheets.{sheetOf, bedFigure, figuresOf, sheetFrom, readGroups, readOf, placeOf, Valid}
+use Rattle.sheet.specs.Sheets.{sheetOf, bedFigure, figuresOf, sheetFrom, readGroups, readOf, placeOf, Valid, Written}
 use Rattle.sheet.specs.declared.Sheet.{Sheet}
 use Rattle.sheet.specs.declared.SheetRead.the-variants.{Good, NoSheet}
 use Rattle.sheet.specs.declared.ReadFault.the-variants.{WrongLength, SpareBitSet, BadField}
@@ -133,19 +133,15 @@ bytes-alone v z =
     (figures-end (alone v) (listed-length (nth v) 0 count) ∙ sym z)))
 
 -- where bytes are read as a sheet, it is valid, and they are its writing
-pub record Written (b : List ℕ) (s : Sheet) : Type 0 where
-  pub valid : Valid s
-  pub bytes : b ≡ bytesOf (figuresOf s)
-
 pub written-read : (b : List ℕ) (s : Sheet) → Bytes b → readOf b ≡ Good s → Written b s
 written-read b s small e =
     let a = accepted b s e in
     let v = groupsOf b in
     let back : figuresOf s ≡ alone v = ap figuresOf (sym (a .sheet)) ∙ figures-of-sheet v (a .none) in
-    record { valid = read-valid b s e; bytes = rw back (sym (bytes-alone v (a .spare) ∙ bytes-of-groups b (a .long) small)) }
+    record { valid = read-valid b s e; writing = rw back (sym (bytes-alone v (a .spare) ∙ bytes-of-groups b (a .long) small)) }
 
 pub one-writing : (a b : List ℕ) (s : Sheet) → Bytes a → Bytes b → readOf a ≡ Good s → readOf b ≡ Good s → a ≡ b
-one-writing a b s ha hb ea eb = written-read a s ha ea .bytes ∙ sym (written-read b s hb eb .bytes)
+one-writing a b s ha hb ea eb = written-read a s ha ea .writing ∙ sym (written-read b s hb eb .writing)
 
 -- writing into any place with room, and reading its first 28 bytes
 pub read-place : (s : Sheet) (place : List ℕ) → size ≤ length place → Valid s → readOf (take size (placeOf s place)) ≡ Good s
