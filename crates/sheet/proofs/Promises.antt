@@ -19,10 +19,11 @@ use Rattle.sheet.specs.declared.SheetRead.the-variants.{Good}
 use Rattle.sheet.specs.declared.WriteFault.{WriteFault}
 use Rattle.sheet.specs.declared.SheetWritten.{SheetWritten}
 use Rattle.sheet.specs.declared.SheetWritten.the-variants.{Done}
-use Rattle.sheet.proofs.Packed.{packed}
-use Rattle.sheet.proofs.OneWriting.{figures-of-made, from-figures, one-writing, written-read}
-use Rattle.sheet.proofs.Reading.{read-exactly, wrong-length-exactly, named-exactly, good-exactly, read-by-figures, from-named-exactly, from-good-exactly}
-use Rattle.sheet.proofs.Writing.{written-exactly, too-small-exactly, named-exactly as named-to-write-exactly, done-exactly, read-done, refused-unchanged, past-unchanged}
+use Rattle.sheet.proofs.bits.Packed.{packed}
+use Rattle.sheet.proofs.sheets.OneWriting.{one-writing, written-read}
+use Rattle.sheet.proofs.sheets.Making.{from-named-exactly, from-good-exactly, figures-of-made, from-figures}
+use Rattle.sheet.proofs.sheets.Reading.{read-exactly, wrong-length-exactly, named-exactly, good-exactly, read-by-figures}
+use Rattle.sheet.proofs.sheets.Writing.{written-exactly, too-small-exactly, named-exactly as named-to-write-exactly, done-exactly, read-done, refused-unchanged, past-unchanged}
 use Rattle.sheet.proofs.Starred.{s-read, s-written}
 
 -- Fields packed most significant bit first: the bytes' bits in a row are the fields' bits in a row, then the spare bits.

@@ -1,15 +1,8 @@
 -- `sheet::figures::source_figure` meets its contract, case by case.
--- Assumes nothing.
 use borrow.Author.Needs.{needs}
 use Rattle.sheet.specs.Sheets.{sourceFigure}
 use Rattle.sheet.proofs.figures.source_figure.Statement.{statement}
 use Rattle.sheet.proofs.figures.source_figure.Tie as tie
-
-enum-told : tie.Need-enum-told
-enum-told c = search needs
-
-enum-told-2 : tie.Need-enum-told-2
-enum-told-2 c = search needs
 
 returns : tie.Need-returns
 unfolding sourceFigure
@@ -20,4 +13,4 @@ unfolding sourceFigure
 returns-2 c = search needs
 
 pub source-figure-spec : {M : Type 1} → statement M
-source-figure-spec = tie.close (tie.spec enum-told enum-told-2 returns returns-2)
+source-figure-spec = tie.close (tie.spec (λ c. search needs) (λ c. search needs) returns returns-2)

@@ -15,8 +15,8 @@ use Rattle.sheet.specs.Packing.{eight, listed, groupsOf, figuresIn, numb
 use Rattle.sheet.specs.Regrouping.{Mid, wordAt, filledOf, SplitTo}
 use Rattle.sheet.specs.declared.bits.Between.{Between}
 use Rattle.sheet.specs.declared.bits.Held.{Held}
-use Rattle.sheet.proofs.Regroup.{mid-start, mid-in, mid-out, mid-set, mid-done, listed-is}
-use Rattle.sheet.proofs.Widths.{width-le, starts-eight, starts-width, starts-fields, width-spare, ends-width}
+use Rattle.sheet.proofs.bits.Regroup.{mid-start, mid-in, mid-out, mid-set, mid-done, listed-is}
+use Rattle.sheet.proofs.bits.Widths.{width-le, starts-eight, starts-width, starts-fields, width-spare, ends-width}
 
 module _ (bytes : List ℕ) (byte : (k : ℕ) → nth bytes k < 256) where
   pub word-lt : (k : ℕ) → wordAt bytes k < 2 ^ 32

@@ -4,7 +4,7 @@ use native.Mathlib.Omega.{arith}
 use Rattle.sheet.specs.Fields.{fields, fieldAt, least, greatest}
 use Rattle.sheet.specs.Sheets.{figuresOf, Valid}
 use Rattle.sheet.specs.declared.Sheet.{Sheet}
-use Rattle.sheet.proofs.Valid.{fine}
+use Rattle.sheet.proofs.sheets.Valid.{fine}
 
 -- the figures of a valid sheet that sums and products are made of
 pub record Ranges (s : Sheet) : Type 0 where

@@ -1,5 +1,4 @@
 -- When a field is bad: each way out of the rule, and what a field that is not bad keeps.
--- Assumes nothing.
 use mathlib.Core.Path.{_≡_, refl, ap, sym, _∙_}
 use mathlib.Core.Bool.{Bool, true, false, _||_, true≢false}
 use mathlib.Core.List.{List}

@@ -23,9 +23,9 @@ use Rattle.sheet.specs.declared.SheetRead.the-variants.{Good}
 use Rattle.sheet.specs.declared.SheetWritten.{SheetWritten}
 use Rattle.sheet.specs.declared.SheetWritten.the-variants.{Done, NotWritten}
 use Rattle.sheet.specs.declared.WriteFault.the-variants.{PlaceTooSmall, BadField as BadFieldToWrite}
-use Rattle.sheet.proofs.Answers.{write-small, write-done}
-use Rattle.sheet.proofs.BadFields.{first-least, none-bad}
-use Rattle.sheet.proofs.OneWriting.{bytes-length, read-place}
+use Rattle.sheet.proofs.sheets.Answers.{write-small, write-done}
+use Rattle.sheet.proofs.fields.BadFields.{first-least, none-bad}
+use Rattle.sheet.proofs.sheets.OneWriting.{bytes-length, read-place}
 
 -- why a writing is answered as it is, and what it leaves
 pub data Wrote (s : Sheet) (place : List ℕ) : SheetWritten → List ℕ → Type 0 where

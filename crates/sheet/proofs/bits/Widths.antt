@@ -7,7 +7,7 @@ use Rattle.laws.proofs.Every.{every-at}
 use Rattle.sheet.specs.Bits.{starts}
 use Rattle.sheet.specs.Fields.{groups, fields, fieldAt, width, greatest, count}
 use Rattle.sheet.specs.Packing.{eight, size}
-use Rattle.sheet.proofs.Groups.{starts-le}
+use Rattle.sheet.proofs.bits.Groups.{starts-le}
 
 -- one test over the whole table, and the rule at each field
 pub width-le : (k : ℕ) → k < groups → width k ≤ 20

@@ -1,92 +1,32 @@
 -- A written sheet is read back, and each sheet has one writing.
 use mathlib.Core.Path.{_≡_, refl, ap, sym, _∙_}
-use mathlib.Core.Bool.{Bool, true, false, _&&_, false≢true}
+use mathlib.Core.Bool.{Bool, true, false}
 use mathlib.Core.List.{List}
 use Prim.Native.Nat.{ℕ, _≤_}
 use native.Mathlib.Omega.{arith}
 use borrow.Author.Count.{below-more}
-use borrow.Author.Tests.{eq-eqb, eqb-true, le-ltb, not-false}
+use borrow.Author.Tests.{eq-eqb, eqb-true, le-ltb}
 use lib.Dec.{eqb}
 use lib.ListN.{length, take, drop}
 use lib.Seq.{take-at}
 use Rattle.laws.specs.Choice.{if_then_else_}
 use Rattle.sheet.specs.Bits.{cut}
-use Rattle.sheet.specs.Fields.{groups, count, fields, fieldAt, width, nth, greatest, pairBad, firstBad}
+use Rattle.sheet.specs.Fields.{groups, count, width, nth, firstBad}
 use Rattle.sheet.specs.Packing.{size, eight, listed, groupsOf, bytesOf, Bytes}
-use Rattle.sheet.specs.Sheets.{sheetOf, bedFigure, figuresOf, sheetFrom, readGroups, readOf, placeOf, Valid, Written}
+use Rattle.sheet.specs.Sheets.{sheetOf, figuresOf, sheetFrom, readGroups, readOf, placeOf, Valid, Written}
 use Rattle.sheet.specs.declared.Sheet.{Sheet}
 use Rattle.sheet.specs.declared.SheetRead.the-variants.{Good, NoSheet}
-use Rattle.sheet.specs.declared.ReadFault.the-variants.{WrongLength, SpareBitSet, BadField}
-use Rattle.sheet.proofs.Regroup.{joined-same, listed-is, listed-length}
-use Rattle.sheet.proofs.RoundTrip.{groups-of-bytes, bytes-of-groups}
-use Rattle.sheet.proofs.Beds.{bed-back}
-use Rattle.sheet.proofs.Levels.{level-back, figures-back}
-use Rattle.sheet.proofs.SameFields.{alone, alone-at, first-bad-same, sheet-from-same}
-use Rattle.sheet.proofs.Valid.{fine, fine-narrow, figures-end}
-use Rattle.sheet.proofs.Answers.{read-from, from-good, figures-spare}
-
--- the greatest bed and the greatest source
-bed-greatest : greatest 5 ≡ 3000
-unfolding greatest fieldAt fields
-bed-greatest = refl
-
-source-greatest : greatest 26 ≡ 1
-unfolding greatest fieldAt fields
-source-greatest = refl
-
-pub sheet-of-figures : (s : Sheet) → Valid s → sheetOf (figuresOf s) ≡ s
-unfolding Valid sheetOf figuresOf
-sheet-of-figures s e =
-    rw (bed-back (s .bed) (omega (arith, fine (figuresOf s) e 5 (omega arith) .high, bed-greatest)), level-back (s .level))
-
-and-false : (a b : Bool) → (a && b) ≡ false → a ≡ true → b ≡ false
-and-false true b e h = e
-and-false false b e h = absurd (false≢true h)
-
-no-level : (v : List ℕ) → pairBad v 27 ≡ false → nth v 26 ≡ 0 → nth v 27 ≡ 0
-unfolding pairBad
-no-level v p h = eqb-true (nth v 27) 0 (not-false _ (and-false (eqb (nth v 26) 0) _ p (eq-eqb (nth v 26) 0 h)))
-
--- figures of which none is bad are those of their sheet
-pub figures-of-sheet : (v : List ℕ) → firstBad v ≡ 0 → figuresOf (sheetOf v) ≡ alone v
-unfolding sheetOf figuresOf bedFigure listed
-figures-of-sheet v e =
-    let source = fine v e 26 (omega arith) in
-    let level = fine v e 27 (omega arith) in
-    let b = figures-back (nth v 26) (nth v 27) (omega (arith, source-greatest)) (no-level v (level .pair)) in
-    rw (b .source-back, b .level-figure-back)
-
-pub valid-sheet : (v : List ℕ) → firstBad v ≡ 0 → Valid (sheetOf v)
-unfolding Valid
-valid-sheet v e = rw (figures-of-sheet v e) (first-bad-same (alone v) v (alone-at v) ∙ e)
+use Rattle.sheet.specs.declared.ReadFault.the-variants.{WrongLength, SpareBitSet}
+use Rattle.sheet.proofs.bits.Regroup.{joined-same, listed-length}
+use Rattle.sheet.proofs.bits.RoundTrip.{groups-of-bytes, bytes-of-groups}
+use Rattle.sheet.proofs.figures.SameFields.{alone, alone-at, sheet-from-same}
+use Rattle.sheet.proofs.sheets.Making.{figures-of-sheet, valid-sheet, from-figures, made}
+use Rattle.sheet.proofs.sheets.Valid.{fine-narrow, figures-end, figures-spare}
+use Rattle.sheet.proofs.sheets.Answers.{read-from}
 
 pub bytes-length : (v : List ℕ) → length (bytesOf v) ≡ size
 unfolding bytesOf
 bytes-length v = listed-length _ 0 size
-
--- a valid sheet is that of its figures
-pub from-figures : (s : Sheet) → Valid s → sheetFrom (figuresOf s) ≡ Good s
-unfolding Valid
-from-figures s e = sym (from-good (figuresOf s) 0 (sym e) s refl (sym (sheet-of-figures s e)))
-
--- a sheet that figures make passed their tests
-pub record Made (v : List ℕ) (s : Sheet) : Type 0 where
-  pub none : firstBad v ≡ 0
-  pub sheet : sheetOf v ≡ s
-
-pub made : (v : List ℕ) (s : Sheet) → sheetFrom v ≡ Good s → Made v s
-unfolding sheetFrom
-made v s e = go (eqb (firstBad v) 0) refl e
-  where
-    go : (n : Bool) → eqb (firstBad v) 0 ≡ n → (if n then Good (sheetOf v) else NoSheet (BadField (firstBad v))) ≡ Good s → Made v s
-    go true r e = record { none = eqb-true _ _ r; sheet = cc }
-    go false r e = let x : _≡_ {A = ℕ} 0 1 = cc in absurd (omega arith)
-
--- and its figures are those
-pub figures-of-made : (v : List ℕ) (s : Sheet) → length v ≡ count → sheetFrom v ≡ Good s → figuresOf s ≡ v
-figures-of-made v s l e =
-    let m = made v s e in
-    ap figuresOf (sym (m .sheet)) ∙ figures-of-sheet v (m .none) ∙ sym (listed-is (nth v) count v l (λ k h. refl))
 
 -- what is written of a sheet is read as that sheet
 pub read-written : (s : Sheet) → Valid s → readOf (bytesOf (figuresOf s)) ≡ Good s
