@@ -4,7 +4,7 @@ use Rattle.laws.specs.First.{firstFrom}
 use Rattle.sheet.specs.Bits.{starts, joined, cut}
 use Rattle.sheet.specs.Fields.{fields, fieldAt, width, least, greatest, pairBad, badAt, firstBad}
 use Rattle.sheet.specs.Packing.{listed, numberOf, groupsOf, bytesOf}
-use Rattle.sheet.specs.Sheets.{levelSourceOf, sheetOf, bedFigure, sourceFigure, levelFigure, figuresOf, sheetFrom, readGroups, readOf}
+use Rattle.sheet.specs.Sheets.{levelSourceOf, sheetOf, bedFigure, figuresOf, sheetFrom, readGroups, readOf}
 use Rattle.sheet.specs.CaseS.{sheetS, bytesS}
 use Rattle.sheet.specs.declared.SheetRead.the-variants.{Good}
 
@@ -13,5 +13,5 @@ unfolding starts joined cut firstFrom fields fieldAt width least greatest pairBa
 s-read = refl
 
 pub s-written : bytesOf (figuresOf sheetS) ≡ bytesS
-unfolding starts joined cut fields fieldAt width listed bytesOf bedFigure sourceFigure levelFigure figuresOf
+unfolding starts joined cut fields fieldAt width listed bytesOf bedFigure figuresOf
 s-written = refl

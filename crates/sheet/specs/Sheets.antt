@@ -72,11 +72,11 @@ unfoldable pub bedFigure : BelowChart → ℕ
 bedFigure bed = bedFigureOf (bed .0)
 
 -- fields 27 and 28 of a level
-unfoldable pub sourceFigure : LevelSource → ℕ
+abbrev pub sourceFigure : LevelSource → ℕ
 sourceFigure FromRecord = 0
 sourceFigure (Given level) = 1
 
-unfoldable pub levelFigure : LevelSource → ℕ
+abbrev pub levelFigure : LevelSource → ℕ
 levelFigure FromRecord = 0
 levelFigure (Given level) = level .0
 
