@@ -16,6 +16,7 @@ pub enum Handle {
     Items,
     Width,
     Bend,
+    MakeSheet,
 }
 
 pub struct Handles {

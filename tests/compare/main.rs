@@ -21,6 +21,7 @@ fn main() {
     let name = std::env::args().nth(1).unwrap_or_default();
     match name.as_str() {
         "reading-sheets" => sheets::reading(),
+        "making-sheets" => sheets::making(),
         "writing-sheets" => sheets::writing(),
         "adding-readings" => gauges::adding(),
         "design-levels" => gauges::levels(),

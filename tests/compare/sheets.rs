@@ -1,4 +1,4 @@
-//! Reading and writing sheets.
+//! Reading sheets, making them of figures, and writing them.
 
 use crate::handles::{bytes_of, numbers_of, Handle, Handles};
 use crate::report::{hex, Report};
@@ -79,24 +79,93 @@ pub fn reading() {
     report.end();
 }
 
-/// The greatest figure that the sheet's type for a field holds.
-fn greatest_held(field: usize) -> i64 {
-    match field {
-        0 | 11 => 1 << 30,
-        1..=3 | 7 | 8 | 12 | 18 | 25 | 27 => 65_535,
-        5 => 30_000,
-        _ => 255,
+/// The second program refuses to write what is no sheet's figures.
+fn made_by_second(figures: [i64; FIELDS]) -> (u32, Vec<i64>) {
+    match sheet::write(&Sheet { figures }, &mut [0; BYTES]) {
+        Ok(()) => (0, figures.to_vec()),
+        Err(refusal) => (told(refusal), vec![-1; FIELDS]),
     }
 }
 
-/// What can be handed over: source 0 or 1, and no figure with source 0.
-fn write_both(handles: &mut Handles, report: &mut Report, mut figures: [i64; FIELDS], room: usize) {
-    figures[26] = figures[26].clamp(0, 1);
-    if figures[26] == 0 {
-        figures[27] = 0;
+fn make_both(handles: &mut Handles, report: &mut Report, figures: [i64; FIELDS]) {
+    let handed: Vec<u32> = figures.iter().map(|&figure| figure as u32).collect();
+    let mut place = [0xff; 4 * FIELDS];
+    let number = handles.call(Handle::MakeSheet, &bytes_of(&handed), &mut place);
+    let made = numbers_of(&place).into_iter();
+    let proved = (
+        number,
+        made.map(|figure| i64::from(figure as i32)).collect(),
+    );
+    report.case(proved, made_by_second(figures), || format!("{figures:?}"));
+}
+
+/// Figures of any size: at and past both ends of their field, of its bits, and of the types that may hold it.
+pub fn making() {
+    let mut report = Report::new("making sheets of figures", 200_000);
+    let mut handles = Handles::start();
+    let mut rng = Random::new(13);
+    for _ in 0..100 {
+        let figures = random::valid_sheet(&mut rng);
+        make_both(&mut handles, &mut report, figures);
+        for (field, row) in TABLE.iter().enumerate() {
+            let tried = [
+                row.least - 1,
+                row.least,
+                row.greatest,
+                row.greatest + 1,
+                (1 << row.bits) - 1,
+                1 << row.bits,
+                figures[field] + (1 << row.bits),
+                figures[field] + (1 << 8),
+                figures[field] + (1 << 16),
+                (1 << 32) - 1,
+            ];
+            for figure in tried {
+                if figure >= 0 {
+                    let mut changed = figures;
+                    changed[field] = figure;
+                    make_both(&mut handles, &mut report, changed);
+                }
+            }
+        }
     }
-    let mut handed: Vec<u32> = figures.iter().map(|&figure| figure as u32).collect();
-    handed[5] = (figures[5] + 10_000) as u32;
+    for _ in 0..180_000 {
+        let mut figures = random::valid_sheet(&mut rng);
+        for _ in 0..rng.below(3) {
+            let field = rng.below(FIELDS);
+            let greatest = rng.pick(&[TABLE[field].greatest + 2, (1 << 32) - 1]);
+            figures[field] = rng.between(0, greatest);
+        }
+        make_both(&mut handles, &mut report, figures);
+    }
+    report.end();
+}
+
+/// The fields that the handle sets in a good sheet, and the greatest figure of each one's type.
+const SET: [(usize, i64); 5] = [
+    (1, (1 << 32) - 1),
+    (2, 65_535),
+    (5, 255),
+    (6, 30_000),
+    (25, 255),
+];
+
+/// Writes a good sheet, with one field set to another figure where one is given.
+fn write_both(
+    handles: &mut Handles,
+    report: &mut Report,
+    good: [i64; FIELDS],
+    set: Option<(usize, i64)>,
+    room: usize,
+) {
+    let mut figures = good;
+    let mut handed: Vec<u32> = good.iter().map(|&figure| figure as u32).collect();
+    if let Some((field, figure)) = set {
+        figures[field - 1] = figure;
+        // A bed may lie above chart datum: it is handed over plus 10,000.
+        let shift = if field == 6 { 10_000 } else { 0 };
+        handed.extend([field as u32, (figure + shift) as u32]);
+    }
     let before: Vec<u8> = (0..room).map(|k| (k * 37 + 11) as u8).collect();
     let mut proved_place = before.clone();
     let proved = handles.call(Handle::WriteSheet, &bytes_of(&handed), &mut proved_place);
@@ -114,35 +183,27 @@ pub fn writing() {
     for _ in 0..100 {
         let figures = random::valid_sheet(&mut rng);
         for room in 0..=64 {
-            write_both(&mut handles, &mut report, figures, room);
+            write_both(&mut handles, &mut report, figures, None, room);
         }
-        for (field, row) in TABLE.iter().enumerate() {
-            let past = [
-                row.least,
-                row.greatest,
-                row.greatest + 1,
-                greatest_held(field),
-            ];
-            for figure in past {
-                let mut changed = figures;
-                changed[field] = figure;
-                write_both(&mut handles, &mut report, changed, 30);
+        for (field, held) in SET {
+            let row = &TABLE[field - 1];
+            for figure in [row.least, row.greatest, row.greatest + 1, held] {
+                let set = Some((field, figure));
+                write_both(&mut handles, &mut report, figures, set, 30);
             }
-            if row.least > 0 || field == 5 {
-                let mut changed = figures;
-                changed[field] = row.least - 1;
-                write_both(&mut handles, &mut report, changed, 28);
+            if row.least > 0 || field == 6 {
+                let set = Some((field, row.least - 1));
+                write_both(&mut handles, &mut report, figures, set, 28);
             }
         }
     }
     for _ in 0..200_000 {
-        let mut figures = random::valid_sheet(&mut rng);
-        if rng.below(3) == 0 {
-            let field = rng.below(FIELDS);
-            figures[field] = rng.between(0, greatest_held(field));
-        }
+        let figures = random::valid_sheet(&mut rng);
+        let (field, held) = rng.pick(&SET);
+        let least = if field == 6 { -10_000 } else { 0 };
+        let set = (rng.below(3) == 0).then(|| (field, rng.between(least, held)));
         let room = rng.pick(&[27, 28, 29, 40]);
-        write_both(&mut handles, &mut report, figures, room);
+        write_both(&mut handles, &mut report, figures, set, room);
     }
     report.end();
 }

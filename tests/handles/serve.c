@@ -9,7 +9,7 @@
 
 typedef uint32_t call(const void *input, size_t count, void *place, size_t room);
 
-extern call trial_read, trial_write, trial_add, trial_level, trial_depth, trial_worksheet, trial_items, trial_width, trial_bend;
+extern call trial_read, trial_write, trial_add, trial_level, trial_depth, trial_worksheet, trial_items, trial_width, trial_bend, trial_make;
 
 /* A plan's part of the place: what the call returned, and the bytes that it is lent with bytes behind them. */
 enum { RETURNED = 4, PART = RETURNED + 96 };
@@ -51,6 +51,7 @@ static const struct handle handles[] = {
     {trial_items, 4, 4},
     {trial_width, 4, 4},
     {trial_bend, 4, 4},
+    {trial_make, 4, 4},
 };
 
 static int take(void *to, size_t count) { return fread(to, 1, count, stdin) == count; }

@@ -18,10 +18,11 @@ use Rattle.datum.specs.Datum.{levelOf}
 use Rattle.datum.specs.declared.Level.{Level}
 use Rattle.sheet.specs.Fields.{Bad}
 use Rattle.sheet.specs.Packing.{size, groupsOf, Bytes}
-use Rattle.sheet.specs.Sheets.{readOf, placeOf, Valid}
+use Rattle.sheet.specs.Sheets.{readOf, writtenOf, placeOf}
 use Rattle.sheet.specs.declared.Sheet.{Sheet}
 use Rattle.sheet.specs.declared.SheetRead.the-variants.{Good}
 use Rattle.sheet.specs.declared.ReadFault.the-variants.{BadField}
+use Rattle.sheet.specs.declared.SheetWritten.the-variants.{Done}
 use Rattle.sheet.proofs.Promises.{written-and-read, each-one-writing}
 use Rattle.gauge.specs.Adding.{addition, additionNumber, tableAfter}
 use Rattle.gauge.specs.Designing.{designLevel}
@@ -91,7 +92,7 @@ pub one-row-of-figures : (s : Sheet) (level : Level) (f g : Figures) → Figures
 one-row-of-figures = figures-only
 
 -- A sheet written and read again is the same sheet.
-pub written-and-read-again : (s : Sheet) (place : List ℕ) → size ≤ length place → Valid s → readOf (take size (placeOf s place)) ≡ Good s
+pub written-and-read-again : (s : Sheet) (place : List ℕ) → writtenOf s place ≡ Done → readOf (take size (placeOf s place)) ≡ Good s
 written-and-read-again = written-and-read
 
 -- Each sheet has one writing.

@@ -1,24 +1,3 @@
-pub mod Groups
-pub mod Steps
-pub mod Regroup
-pub mod Widths
-pub mod Splitting
-pub mod Types
-pub mod RoundTrip
-pub mod Rules
-pub mod Runs
-pub mod BadRuns
-pub mod SameFields
-pub mod Valid
-pub mod Packed
-pub mod Spare
-pub mod Beds
-pub mod Levels
-pub mod Answers
-pub mod BadFields
-pub mod OneWriting
-pub mod Reading
-pub mod Writing
-pub mod Ranges
-pub mod CaseS
+pub mod sheets
+mod Starred
 pub mod Promises

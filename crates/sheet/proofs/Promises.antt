@@ -9,18 +9,22 @@ use Rattle.laws.specs.Rows.{NoneBefore, Exactly}
 use Rattle.laws.proofs.Unique.{one-answer}
 use Rattle.sheet.specs.Fields.{count, Bad}
 use Rattle.sheet.specs.Packing.{size, groupsOf, figuresIn, bytesOf, bitsOfBytes, bitsOfGroups, Bytes, SpareSet}
-use Rattle.sheet.specs.Sheets.{figuresOf, sheetFrom, readOf, writtenOf, placeOf, Valid}
-use Rattle.sheet.specs.Refusals.{readRows, writtenRows, readNumber, readField, writtenNumber, writtenField}
+use Rattle.sheet.specs.Sheets.{figuresOf, sheetFrom, readOf, writtenOf, placeOf, Valid, Written}
+use Rattle.sheet.specs.Refusals.{readRows, writtenRows, readFaultNumber, readFaultField, readNumber, readField, writeFaultNumber, writeFaultField, writtenNumber, writtenField}
+use Rattle.sheet.specs.CaseS.{sheetS, bytesS}
 use Rattle.sheet.specs.declared.Sheet.{Sheet}
+use Rattle.sheet.specs.declared.ReadFault.{ReadFault}
 use Rattle.sheet.specs.declared.SheetRead.{SheetRead}
 use Rattle.sheet.specs.declared.SheetRead.the-variants.{Good}
+use Rattle.sheet.specs.declared.WriteFault.{WriteFault}
 use Rattle.sheet.specs.declared.SheetWritten.{SheetWritten}
 use Rattle.sheet.specs.declared.SheetWritten.the-variants.{Done}
-use Rattle.sheet.proofs.Packed.{packed}
-use Rattle.sheet.proofs.OneWriting.{figures-of-made, from-figures, one-writing, read-place, Written, written-read}
-use Rattle.sheet.proofs.Reading.{read-exactly, wrong-length-exactly, named-exactly, good-exactly, read-by-figures, from-named-exactly, from-good-exactly}
-use Rattle.sheet.proofs.Writing.{written-exactly, too-small-exactly, named-exactly as named-to-write-exactly, done-exactly, refused-unchanged, past-unchanged}
-use Rattle.sheet.proofs.CaseS.{sheetS, bytesS, s-read, s-written}
+use Rattle.sheet.proofs.bits.Packed.{packed}
+use Rattle.sheet.proofs.sheets.OneWriting.{one-writing, written-read}
+use Rattle.sheet.proofs.sheets.Making.{from-named-exactly, from-good-exactly, figures-of-made, from-figures}
+use Rattle.sheet.proofs.sheets.Reading.{read-exactly, wrong-length-exactly, named-exactly, good-exactly, read-by-figures}
+use Rattle.sheet.proofs.sheets.Writing.{written-exactly, too-small-exactly, named-exactly as named-to-write-exactly, done-exactly, read-done, refused-unchanged, past-unchanged}
+use Rattle.sheet.proofs.Starred.{s-read, s-written}
 
 -- Fields packed most significant bit first: the bytes' bits in a row are the fields' bits in a row, then the spare bits.
 pub fields-in-a-row : (bytes : List ℕ) → Bytes bytes → bitsOfBytes bytes ≡ bitsOfGroups (groupsOf bytes)
@@ -70,8 +74,8 @@ pub read-by-its-figures : (bytes : List ℕ) → Bytes bytes → length bytes �
 read-by-its-figures = read-by-figures
 
 -- A sheet written and read again is the same sheet.
-pub written-and-read : (s : Sheet) (place : List ℕ) → size ≤ length place → Valid s → readOf (take size (placeOf s place)) ≡ Good s
-written-and-read = read-place
+pub written-and-read : (s : Sheet) (place : List ℕ) → writtenOf s place ≡ Done → readOf (take size (placeOf s place)) ≡ Good s
+written-and-read = read-done
 
 -- Each sheet has one writing.
 pub each-one-writing : (a b : List ℕ) (s : Sheet) → Bytes a → Bytes b → readOf a ≡ Good s → readOf b ≡ Good s → a ≡ b
@@ -107,6 +111,18 @@ past-stays = past-unchanged
 pub read-unique : (bytes : List ℕ) (r t : SheetRead) → r ≡ readOf bytes → t ≡ readOf bytes → r ≡ t
 read-unique bytes = one-answer
 
+pub read-fault-number-unique : (fault : ReadFault) (r t : ℕ) → r ≡ readFaultNumber fault → t ≡ readFaultNumber fault → r ≡ t
+read-fault-number-unique fault = one-answer
+
+pub read-fault-field-unique : (fault : ReadFault) (r t : ℕ) → r ≡ readFaultField fault → t ≡ readFaultField fault → r ≡ t
+read-fault-field-unique fault = one-answer
+
+pub write-fault-number-unique : (fault : WriteFault) (r t : ℕ) → r ≡ writeFaultNumber fault → t ≡ writeFaultNumber fault → r ≡ t
+write-fault-number-unique fault = one-answer
+
+pub write-fault-field-unique : (fault : WriteFault) (r t : ℕ) → r ≡ writeFaultField fault → t ≡ writeFaultField fault → r ≡ t
+write-fault-field-unique fault = one-answer
+
 pub figures-unique : (s : Sheet) (figures others : List ℕ) → figures ≡ figuresOf s → others ≡ figuresOf s → figures ≡ others
 figures-unique s = one-answer
 
@@ -119,9 +135,6 @@ write-unique s place = one-answer
 pub place-unique : (s : Sheet) (place : List ℕ) (now later : List ℕ) → now ≡ placeOf s place → later ≡ placeOf s place → now ≡ later
 place-unique s place = one-answer
 
--- Case S: its bytes are read as its sheet, and written from it.
-pub case-s-read : readOf bytesS ≡ Good sheetS
-case-s-read = s-read
-
-pub case-s-written : bytesOf (figuresOf sheetS) ≡ bytesS
-case-s-written = s-written
+-- The starred case, S: its bytes are read as its sheet, and written from it.
+pub starred : (readOf bytesS ≡ Good sheetS) × (bytesOf (figuresOf sheetS) ≡ bytesS)
+starred = (s-read, s-written)

@@ -5,3 +5,4 @@ pub mod Packing
 pub mod Regrouping
 pub mod Sheets
 pub mod Refusals
+pub mod CaseS

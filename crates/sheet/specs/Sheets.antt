@@ -7,7 +7,7 @@ use lib.ListN.{length, drop}
 use Rattle.datum.specs.Datum.{belowChart}
 use Rattle.datum.specs.declared.BelowChart.{BelowChart}
 use Rattle.laws.specs.Choice.{if_then_else_, _<ᵇ_, _=ᵇ_}
-use Rattle.sheet.specs.Fields.{count, nth, firstBad}
+use Rattle.sheet.specs.Fields.{count, nth, field, firstBad}
 use Rattle.sheet.specs.Packing.{size, groupsOf, bytesOf}
 use Rattle.sheet.specs.declared.LevelSource.{LevelSource}
 use Rattle.sheet.specs.declared.LevelSource.the-variants.{FromRecord, Given}
@@ -27,37 +27,37 @@ levelSourceOf source level = if source =ᵇ 0 then FromRecord else Given (record
 abbrev pub sheetWith : List ℕ → BelowChart → LevelSource → Sheet
 sheetWith figures bed level =
     record {
-      deadweight = nth figures 0;
-      draft = nth figures 1;
-      length = nth figures 2;
-      beam = nth figures 3;
-      speed = nth figures 4;
+      deadweight = field figures 1;
+      draft = field figures 2;
+      length = field figures 3;
+      beam = field figures 4;
+      speed = field figures 5;
       bed = bed;
-      soil = nth figures 6;
-      allowance = nth figures 7;
-      silting = nth figures 8;
-      interval = nth figures 9;
-      lanes = nth figures 10;
-      channel = nth figures 11;
-      ships = nth figures 12;
-      water = nth figures 13;
-      handling = nth figures 14;
-      wind = nth figures 15;
-      cross = record { 0 = nth figures 16 };
-      along = record { 0 = nth figures 17 };
-      wave = nth figures 18;
-      aids = nth figures 19;
-      bottom = nth figures 20;
-      cargo = nth figures 21;
-      left = nth figures 22;
-      right = nth figures 23;
-      turn = nth figures 24;
-      radius = nth figures 25;
+      soil = field figures 7;
+      allowance = field figures 8;
+      silting = field figures 9;
+      interval = field figures 10;
+      lanes = field figures 11;
+      channel = field figures 12;
+      ships = field figures 13;
+      water = field figures 14;
+      handling = field figures 15;
+      wind = field figures 16;
+      cross = record { 0 = field figures 17 };
+      along = record { 0 = field figures 18 };
+      wave = field figures 19;
+      aids = field figures 20;
+      bottom = field figures 21;
+      cargo = field figures 22;
+      left = field figures 23;
+      right = field figures 24;
+      turn = field figures 25;
+      radius = field figures 26;
       level = level;
     }
 
 unfoldable pub sheetOf : List ℕ → Sheet
-sheetOf figures = sheetWith figures (belowChart (pos (nth figures 5))) (levelSourceOf (nth figures 26) (nth figures 27))
+sheetOf figures = sheetWith figures (belowChart (pos (field figures 6))) (levelSourceOf (field figures 27) (field figures 28))
 
 -- what stands for a figure that no field holds
 abbrev pub noFigure : ℕ
@@ -72,11 +72,11 @@ unfoldable pub bedFigure : BelowChart → ℕ
 bedFigure bed = bedFigureOf (bed .0)
 
 -- fields 27 and 28 of a level
-unfoldable pub sourceFigure : LevelSource → ℕ
+abbrev pub sourceFigure : LevelSource → ℕ
 sourceFigure FromRecord = 0
 sourceFigure (Given level) = 1
 
-unfoldable pub levelFigure : LevelSource → ℕ
+abbrev pub levelFigure : LevelSource → ℕ
 levelFigure FromRecord = 0
 levelFigure (Given level) = level .0
 
@@ -117,3 +117,8 @@ placeOf s place =
 -- a sheet whose every field is in its range and whose pairs agree
 unfoldable pub Valid : Sheet → Type 0
 Valid s = firstBad (figuresOf s) ≡ 0
+
+-- the bytes are the writing of a valid sheet
+pub record Written (bytes : List ℕ) (s : Sheet) : Type 0 where
+  pub valid : Valid s
+  pub writing : bytes ≡ bytesOf (figuresOf s)

@@ -20,9 +20,9 @@ use Rattle.sheet.specs.Refusals.{readNumber}
 use Rattle.sheet.specs.declared.Sheet.{Sheet}
 use Rattle.sheet.specs.declared.SheetRead.the-variants.{Good}
 use Rattle.sheet.specs.declared.LevelSource.{LevelSource}
-use Rattle.sheet.proofs.OneWriting.{accepted}
-use Rattle.sheet.proofs.Reading.{read-exactly}
-use Rattle.sheet.proofs.Valid.{fine}
+use Rattle.sheet.proofs.sheets.OneWriting.{accepted}
+use Rattle.sheet.proofs.sheets.Reading.{read-exactly}
+use Rattle.sheet.proofs.sheets.Valid.{fine}
 use Rattle.depth.specs.Interval.{intervalOf}
 use Rattle.depth.specs.Squat.{squatReading}
 use Rattle.depth.specs.Depth.{Meets}

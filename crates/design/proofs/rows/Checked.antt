@@ -12,7 +12,7 @@ use Rattle.sheet.specs.declared.Sheet.{Sheet}
 use Rattle.sheet.specs.declared.SheetRead.{SheetRead}
 use Rattle.sheet.specs.declared.SheetRead.the-variants.{Good, NoSheet}
 use Rattle.sheet.specs.declared.ReadFault.the-variants.{WrongLength, SpareBitSet, BadField}
-use Rattle.sheet.proofs.Reading.{Unread, reads, read-told}
+use Rattle.sheet.proofs.sheets.Reading.{Unread, reads, read-told}
 use Rattle.gauge.specs.Designing.{designLevel, levelNumber, levelRows}
 use Rattle.gauge.specs.declared.LevelRead.{LevelRead}
 use Rattle.gauge.specs.declared.LevelRead.the-variants.{Found, NoLevel}

@@ -9,7 +9,7 @@ use Rattle.sheet.specs.Sheets.{readOf}
 use Rattle.sheet.specs.Refusals.{readRows}
 use Rattle.sheet.specs.declared.SheetRead.{SheetRead}
 use Rattle.sheet.specs.declared.SheetRead.the-variants.{Good}
-use Rattle.sheet.proofs.Reading.{reads, read-told}
+use Rattle.sheet.proofs.sheets.Reading.{reads, read-told}
 use Rattle.gauge.specs.Designing.{designLevel, levelRows}
 use Rattle.gauge.specs.declared.LevelRead.{LevelRead}
 use Rattle.gauge.specs.declared.LevelRead.the-variants.{Found}

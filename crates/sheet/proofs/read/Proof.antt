@@ -2,7 +2,7 @@
 use mathlib.Core.Path.{ap, _∙_}
 use borrow.Author.Needs.{needs}
 use Rattle.sheet.specs.Sheets.{sheetFrom}
-use Rattle.sheet.proofs.Answers.{read-length, read-spare, read-from, figures-in}
+use Rattle.sheet.proofs.sheets.Answers.{read-length, read-spare, read-from, figures-in}
 use Rattle.sheet.proofs.read.Statement.{statement}
 use Rattle.sheet.proofs.read.Tie as tie
 

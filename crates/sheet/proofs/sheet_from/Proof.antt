@@ -1,9 +1,8 @@
 -- `sheet::sheet_from` meets its contract: each way out is a case of `sheetFrom`.
-use mathlib.Core.Path.{_≡_, sym, _∙_}
+use mathlib.Core.Path.{sym, _∙_}
 use borrow.Author.Needs.{needs}
-use Rattle.sheet.specs.Fields.{firstBad}
-use Rattle.sheet.proofs.Answers.{from-bad, from-good}
-use Rattle.sheet.proofs.Valid.{fine-narrow, figures-end}
+use Rattle.sheet.proofs.sheets.Making.{from-bad, from-good}
+use Rattle.sheet.proofs.sheets.Valid.{fine-narrow, figures-end}
 use Rattle.sheet.proofs.sheet_from.Statement.{statement}
 use Rattle.sheet.proofs.sheet_from.Tie as tie
 

@@ -1,15 +1,10 @@
 -- `sheet::bits::filled` meets its contract: each way out is a case of `filledOf`.
--- Assumes nothing.
 use native.Mathlib.Omega.{arith}
 use borrow.Author.Tests.{lt-ltb, le-ltb}
 use Rattle.sheet.specs.Regrouping.{filledOf}
-use Rattle.sheet.proofs.Splitting.{word-lt}
+use Rattle.sheet.proofs.bits.Splitting.{word-lt}
 use Rattle.sheet.proofs.bits.filled.Statement.{statement}
 use Rattle.sheet.proofs.bits.filled.Tie as tie
-use Rattle.sheet.proofs.bits.filled.Reads as reads
-use Rattle.sheet.proofs.bits.filled.Lts as lts
-use Rattle.sheet.proofs.bits.Held.put.Reads as put-reads
-use Rattle.sheet.proofs.bits.word.Reads as word-reads
 
 returns : tie.Need-returns
 unfolding filledOf

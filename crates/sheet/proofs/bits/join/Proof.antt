@@ -10,18 +10,12 @@ use Rattle.sheet.specs.Bits.{joined, cut}
 use Rattle.sheet.specs.Fields.{groups, width, nth}
 use Rattle.sheet.specs.Packing.{eight, listed, bytesOf, Narrow}
 use Rattle.sheet.specs.Regrouping.{Mid}
-use Rattle.sheet.proofs.Regroup.{mid-start, mid-in, mid-set, mid-done, listed-is}
-use Rattle.sheet.proofs.Widths.{width-le, starts-eight, starts-width}
-use Rattle.sheet.proofs.Steps.{first-lt}
-use Rattle.sheet.proofs.Groups.{starts-le}
+use Rattle.sheet.proofs.bits.Regroup.{mid-start, mid-in, mid-set, mid-done, listed-is}
+use Rattle.sheet.proofs.bits.Widths.{width-le, starts-eight, starts-width}
+use Rattle.sheet.proofs.bits.Steps.{first-lt}
+use Rattle.sheet.proofs.bits.Groups.{starts-le}
 use Rattle.sheet.proofs.bits.join.Statement.{statement}
 use Rattle.sheet.proofs.bits.join.Tie as tie
-use Rattle.sheet.proofs.bits.join.Reads as reads
-use Rattle.sheet.proofs.bits.join.Lts as lts
-use Rattle.sheet.proofs.bits.Held.first.Reads as first-reads
-use Rattle.sheet.proofs.bits.Held.put.Reads as put-reads
-use Rattle.sheet.proofs.bits.Held.rest.Reads as rest-reads
-use Rattle.sheet.proofs.fields.width_of.Reads as width-of-reads
 
 -- the bytes past the sheet stay
 record Rest (place₀ place : List ℕ) : Type 0 where
@@ -43,12 +37,6 @@ abbrev μ-loop : tie.MeasureT-loop
 loop-holds : tie.Need-loop-holds Inv-loop2 μ-loop2 Inv-loop μ-loop
 loop-holds c = (mid-start _ _ _ _, omega arith, omega arith, record { same = refl; tail = refl })
 
-width-of-requires : tie.Need-width-of-requires Inv-loop2 μ-loop2 Inv-loop μ-loop
-width-of-requires c κs = search needs
-
-group-at-requires : tie.Need-group-at-requires Inv-loop2 μ-loop2 Inv-loop μ-loop
-group-at-requires c κs = search needs
-
 put-requires : tie.Need-put-requires Inv-loop2 μ-loop2 Inv-loop μ-loop
 unfolding Narrow
 put-requires c κs =
@@ -68,9 +56,6 @@ loop2-holds c =
       record { same = refl; tail = refl },
     )
 
-first-requires : tie.Need-first-requires Inv-loop2 μ-loop2 Inv-loop μ-loop
-first-requires c κs = search needs
-
 cast-place : tie.Need-cast-place Inv-loop2 μ-loop2 Inv-loop μ-loop
 cast-place c =
     let d = c .before .before .before in
@@ -81,9 +66,6 @@ slice-write-place c =
     let d = c .before .before .before in
     let i = d .before .before .before .before .before .loop .i in
     omega (arith, starts-eight (d .loop2 .at), starts-le width (i + 1) groups (omega arith), starts-width)
-
-rest-requires : tie.Need-rest-requires Inv-loop2 μ-loop2 Inv-loop μ-loop
-rest-requires c κs = search needs
 
 add-at : tie.Need-add-at Inv-loop2 μ-loop2 Inv-loop μ-loop
 add-at c =
@@ -107,12 +89,6 @@ loop2-again c =
       record { same = rw length-set (d .loop2 .inv .2 .same); tail = rw drop-set-lt (d .loop2 .inv .2 .tail) },
     )
 
-add-i : tie.Need-add-i Inv-loop2 μ-loop2 Inv-loop μ-loop
-add-i c = search needs
-
-loop-less : tie.Need-loop-less Inv-loop2 μ-loop2 Inv-loop μ-loop
-loop-less c = search needs
-
 loop-again : tie.Need-loop-again Inv-loop2 μ-loop2 Inv-loop μ-loop
 loop-again c =
     let d = c .before .before in
@@ -123,9 +99,6 @@ loop-again c =
       record
           { same = d .loop2 .inv .2 .same ∙ o .loop .inv .3 .same; tail = d .loop2 .inv .2 .tail ∙ o .loop .inv .3 .tail },
     )
-
-same-length : tie.Need-same-length Inv-loop2 μ-loop2 Inv-loop μ-loop
-same-length c = search needs
 
 returns : tie.Need-returns Inv-loop2 μ-loop2 Inv-loop μ-loop
 unfolding bytesOf
@@ -153,19 +126,19 @@ join-spec =
     Inv-loop
     μ-loop
     loop-holds
-    width-of-requires
-    group-at-requires
+    (λ c κs. search needs)
+    (λ c κs. search needs)
     put-requires
     loop2-holds
-    first-requires
+    (λ c κs. search needs)
     cast-place
     slice-write-place
-    rest-requires
+    (λ c κs. search needs)
     add-at
     loop2-less
     loop2-again
-    add-i
-    loop-less
+    (λ c. search needs)
+    (λ c. search needs)
     loop-again
-    same-length
+    (λ c. search needs)
     returns)

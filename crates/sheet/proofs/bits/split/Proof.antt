@@ -2,7 +2,7 @@
 use mathlib.Core.Path.{refl}
 use native.Mathlib.Omega.{arith}
 use borrow.Author.Needs.{needs}
-use Rattle.sheet.proofs.Splitting.{split-start, split-all}
+use Rattle.sheet.proofs.bits.Splitting.{split-start, split-all}
 use Rattle.sheet.proofs.bits.split.Statement.{statement}
 use Rattle.sheet.proofs.bits.split.Tie as tie
 

@@ -5,17 +5,11 @@ use native.Mathlib.Omega.{arith}
 use borrow.Author.Needs.{needs}
 use Rattle.sheet.specs.Fields.{count}
 use Rattle.sheet.specs.Regrouping.{SplitTo}
-use Rattle.sheet.proofs.Splitting.{Full, full-is, split-one, word-left}
-use Rattle.sheet.proofs.Steps.{first-fits}
-use Rattle.sheet.proofs.Widths.{width-le}
+use Rattle.sheet.proofs.bits.Splitting.{Full, full-is, split-one, word-left}
+use Rattle.sheet.proofs.bits.Steps.{first-fits}
+use Rattle.sheet.proofs.bits.Widths.{width-le}
 use Rattle.sheet.proofs.bits.split_on.Statement.{statement}
 use Rattle.sheet.proofs.bits.split_on.Tie as tie
-use Rattle.sheet.proofs.bits.split_on.Reads as reads
-use Rattle.sheet.proofs.bits.split_on.Lts as lts
-use Rattle.sheet.proofs.bits.Held.first.Reads as first-reads
-use Rattle.sheet.proofs.bits.Held.rest.Reads as rest-reads
-use Rattle.sheet.proofs.bits.filled.Reads as filled-reads
-use Rattle.sheet.proofs.fields.width_of.Reads as width-of-reads
 
 abbrev Inv-loop : tie.InvT-loop
 Inv-loop bytes figures₀ from to between₀ i₀ figures between i = SplitTo bytes figures between i × (i ≤ to)
@@ -78,9 +72,6 @@ cast-figures c =
           );
     }
 
-mul-figures : tie.Need-mul-figures Inv-loop μ-loop
-mul-figures c = search needs
-
 element-write-figures : tie.Need-element-write-figures Inv-loop μ-loop
 element-write-figures c = in-table (c .before .before .before .before)
 
@@ -89,12 +80,6 @@ rest-requires c κs =
     let f = full (c .before .before) in
     let w = narrow (c .before .before .before) in
     (f .enough, omega (arith, f .few))
-
-add-i : tie.Need-add-i Inv-loop μ-loop
-add-i c = search needs
-
-loop-less : tie.Need-loop-less Inv-loop μ-loop
-loop-less c = search needs
 
 loop-again : tie.Need-loop-again Inv-loop μ-loop
 loop-again c =
@@ -122,10 +107,10 @@ split-on-spec =
     filled-requires
     first-requires
     cast-figures
-    mul-figures
+    (λ c. search needs)
     element-write-figures
     rest-requires
-    add-i
-    loop-less
+    (λ c. search needs)
+    (λ c. search needs)
     loop-again
     returns)

@@ -1,9 +1,8 @@
 -- `sheet::fields::first_bad` meets its contract: none of the fields that were passed is bad.
--- Assumes nothing.
 use mathlib.Core.Path.{_∙_}
 use native.Mathlib.Omega.{arith}
 use borrow.Author.Needs.{needs}
-use Rattle.sheet.proofs.BadRuns.{Passed, passed-none, passed-run, passed-run-bad}
+use Rattle.sheet.proofs.fields.BadRuns.{Passed, passed-none, passed-run, passed-run-bad}
 use Rattle.sheet.proofs.fields.first_bad.Statement.{statement}
 use Rattle.sheet.proofs.fields.first_bad.Tie as tie
 
@@ -17,26 +16,14 @@ passed-17 c = passed-run _ 9 17 _ (omega arith) (omega arith) (passed-9 (c .befo
 passed-25 : (c : tie.Else3) → Passed (c .before .before .before .before .before .before .args .figures) 25
 passed-25 c = passed-run _ 17 25 _ (omega arith) (omega arith) (passed-17 (c .before .before)) (c .before .first-outside3 .ensures) (c .if3 .left)
 
-first-outside-requires : tie.Need-first-outside-requires
-first-outside-requires c κs = search needs
-
 returns : tie.Need-returns
 returns c = passed-run-bad _ 0 9 _ (omega arith) (omega arith) (passed-none _) (c .before .first-outside .ensures) (c .if1 .taken)
-
-first-outside-requires-2 : tie.Need-first-outside-requires-2
-first-outside-requires-2 c κs = search needs
 
 returns-2 : tie.Need-returns-2
 returns-2 c = passed-run-bad _ 9 17 _ (omega arith) (omega arith) (passed-9 (c .before .before)) (c .before .first-outside2 .ensures) (c .if2 .taken)
 
-first-outside-requires-3 : tie.Need-first-outside-requires-3
-first-outside-requires-3 c κs = search needs
-
 returns-3 : tie.Need-returns-3
 returns-3 c = passed-run-bad _ 17 25 _ (omega arith) (omega arith) (passed-17 (c .before .before)) (c .before .first-outside3 .ensures) (c .if3 .taken)
-
-first-bad-from-requires : tie.Need-first-bad-from-requires
-first-bad-from-requires c κs = search needs
 
 returns-4 : tie.Need-returns-4
 returns-4 c = c .first-bad-from .ensures ∙ passed-25 (c .before) .same
@@ -45,11 +32,11 @@ pub first-bad-spec : {M : Type 1} → statement M
 first-bad-spec =
     tie.close
     (tie.spec
-    first-outside-requires
+    (λ c κs. search needs)
     returns
-    first-outside-requires-2
+    (λ c κs. search needs)
     returns-2
-    first-outside-requires-3
+    (λ c κs. search needs)
     returns-3
-    first-bad-from-requires
+    (λ c κs. search needs)
     returns-4)

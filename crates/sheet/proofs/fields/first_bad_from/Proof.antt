@@ -1,11 +1,10 @@
 -- `sheet::fields::first_bad_from` meets its contract: the search from where the loop stands answers for all the fields past the first `from`.
--- Assumes nothing.
 use mathlib.Core.Path.{_≡_, refl, sym, _∙_}
 use Prim.Native.Nat.{_-_}
 use native.Mathlib.Omega.{arith}
 use borrow.Author.Needs.{needs}
 use Rattle.sheet.specs.Fields.{count, badAt, firstBadFrom}
-use Rattle.sheet.proofs.Runs.{first-end, first-here, first-on}
+use Rattle.sheet.proofs.fields.Runs.{first-end, first-here, first-on}
 use Rattle.sheet.proofs.fields.first_bad_from.Statement.{statement}
 use Rattle.sheet.proofs.fields.first_bad_from.Tie as tie
 
@@ -18,27 +17,12 @@ abbrev μ-loop : tie.MeasureT-loop
 loop-holds : tie.Need-loop-holds Inv-loop μ-loop
 loop-holds c = refl
 
-bad-at-requires : tie.Need-bad-at-requires Inv-loop μ-loop
-bad-at-requires c κs = search needs
-
-cast-result : tie.Need-cast-result Inv-loop μ-loop
-cast-result c = search needs
-
-add-result : tie.Need-add-result Inv-loop μ-loop
-add-result c = search needs
-
 returns : tie.Need-returns Inv-loop μ-loop
 unfolding firstBadFrom
 returns c =
     let l = c .before .before .before in
     first-here (badAt _) (l .loop .at) count (omega arith) (sym (c .before .bad-at .ensures) ∙ c .if1 .taken)
     ∙ l .loop .inv
-
-add-at : tie.Need-add-at Inv-loop μ-loop
-add-at c = search needs
-
-loop-less : tie.Need-loop-less Inv-loop μ-loop
-loop-less c = search needs
 
 loop-again : tie.Need-loop-again Inv-loop μ-loop
 unfolding firstBadFrom
@@ -58,11 +42,11 @@ first-bad-from-spec =
     Inv-loop
     μ-loop
     loop-holds
-    bad-at-requires
-    cast-result
-    add-result
+    (λ c κs. search needs)
+    (λ c. search needs)
+    (λ c. search needs)
     returns
-    add-at
-    loop-less
+    (λ c. search needs)
+    (λ c. search needs)
     loop-again
     returns-2)

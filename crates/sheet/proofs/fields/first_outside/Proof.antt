@@ -1,11 +1,10 @@
 -- `sheet::fields::first_outside` meets its contract: the search from where the loop stands answers for the whole run.
--- Assumes nothing.
 use mathlib.Core.Path.{_≡_, refl, sym, _∙_}
 use Prim.Native.Nat.{_-_}
 use native.Mathlib.Omega.{arith}
 use borrow.Author.Needs.{needs}
 use Rattle.sheet.specs.Fields.{outsideAt, firstOutside}
-use Rattle.sheet.proofs.Runs.{first-end, first-here, first-on}
+use Rattle.sheet.proofs.fields.Runs.{first-end, first-here, first-on}
 use Rattle.sheet.proofs.fields.first_outside.Statement.{statement}
 use Rattle.sheet.proofs.fields.first_outside.Tie as tie
 
@@ -18,27 +17,12 @@ abbrev μ-loop : tie.MeasureT-loop
 loop-holds : tie.Need-loop-holds Inv-loop μ-loop
 loop-holds c = refl
 
-outside-requires : tie.Need-outside-requires Inv-loop μ-loop
-outside-requires c κs = search needs
-
-cast-result : tie.Need-cast-result Inv-loop μ-loop
-cast-result c = search needs
-
-add-result : tie.Need-add-result Inv-loop μ-loop
-add-result c = search needs
-
 returns : tie.Need-returns Inv-loop μ-loop
 unfolding firstOutside
 returns c =
     let l = c .before .before .before in
     first-here (outsideAt _) (l .loop .i) (l .before .args .to) (omega arith) (sym (c .before .outside .ensures) ∙ c .if1 .taken)
     ∙ l .loop .inv
-
-add-i : tie.Need-add-i Inv-loop μ-loop
-add-i c = search needs
-
-loop-less : tie.Need-loop-less Inv-loop μ-loop
-loop-less c = search needs
 
 loop-again : tie.Need-loop-again Inv-loop μ-loop
 unfolding firstOutside
@@ -58,11 +42,11 @@ first-outside-spec =
     Inv-loop
     μ-loop
     loop-holds
-    outside-requires
-    cast-result
-    add-result
+    (λ c κs. search needs)
+    (λ c. search needs)
+    (λ c. search needs)
     returns
-    add-i
-    loop-less
+    (λ c. search needs)
+    (λ c. search needs)
     loop-again
     returns-2)

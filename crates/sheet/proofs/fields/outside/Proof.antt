@@ -1,19 +1,9 @@
 -- `sheet::fields::outside` meets its contract: each way out is a law of `outsideAt`.
--- Assumes nothing.
 use borrow.Author.Needs.{needs}
 use Rattle.sheet.specs.Fields.{least, greatest}
-use Rattle.sheet.proofs.Rules.{outside-small, outside-great}
+use Rattle.sheet.proofs.fields.Rules.{outside-small, outside-great}
 use Rattle.sheet.proofs.fields.outside.Statement.{statement}
 use Rattle.sheet.proofs.fields.outside.Tie as tie
-
-field-at-requires : tie.Need-field-at-requires
-field-at-requires c κs = search needs
-
-mul-figure : tie.Need-mul-figure
-mul-figure c = search needs
-
-array-read-figure : tie.Need-array-read-figure
-array-read-figure c = search needs
 
 returns : tie.Need-returns
 unfolding least
@@ -28,4 +18,4 @@ returns-2 c =
     rw (field .ensures) (outside-great _ _ (rw (field .ensures) at (c .before .if1 .left)))
 
 pub outside-spec : {M : Type 1} → statement M
-outside-spec = tie.close (tie.spec field-at-requires mul-figure array-read-figure returns returns-2)
+outside-spec = tie.close (tie.spec (λ c κs. search needs) (λ c. search needs) (λ c. search needs) returns returns-2)

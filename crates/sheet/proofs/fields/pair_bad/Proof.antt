@@ -1,26 +1,13 @@
 -- `sheet::fields::pair_bad` meets its contract: each way out is a case of `pairBad`.
--- Assumes nothing.
 use borrow.Author.Needs.{needs}
 use borrow.Author.Tests.{eq-eqb, ne-eqb}
 use Rattle.sheet.specs.Fields.{pairBad}
 use Rattle.sheet.proofs.fields.pair_bad.Statement.{statement}
 use Rattle.sheet.proofs.fields.pair_bad.Tie as tie
 
-array-read-result : tie.Need-array-read-result
-array-read-result c = search needs
-
-array-read-result-2 : tie.Need-array-read-result-2
-array-read-result-2 c = search needs
-
 returns : tie.Need-returns
 unfolding pairBad
 returns c = rw (eq-eqb _ 25 (c .if1 .taken))
-
-array-read-if3 : tie.Need-array-read-if3
-array-read-if3 c = search needs
-
-array-read-result-3 : tie.Need-array-read-result-3
-array-read-result-3 c = search needs
 
 returns-2 : tie.Need-returns-2
 unfolding pairBad
@@ -38,11 +25,11 @@ pub pair-bad-spec : {M : Type 1} → statement M
 pair-bad-spec =
     tie.close
     (tie.spec
-    array-read-result
-    array-read-result-2
+    (λ c. search needs)
+    (λ c. search needs)
     returns
-    array-read-if3
-    array-read-result-3
+    (λ c. search needs)
+    (λ c. search needs)
     returns-2
     returns-3
     returns-4)

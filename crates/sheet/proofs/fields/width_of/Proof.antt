@@ -1,5 +1,4 @@
 -- `sheet::fields::width_of` meets its contract: a field's bits, or the spare bits.
--- Assumes nothing.
 use mathlib.Core.Path.{ap}
 use borrow.Author.Needs.{needs}
 use borrow.Author.Tests.{lt-ltb, le-ltb}
@@ -7,9 +6,6 @@ use Rattle.sheet.specs.Fields.{count, width}
 use Rattle.sheet.specs.declared.fields.Field.{Field}
 use Rattle.sheet.proofs.fields.width_of.Statement.{statement}
 use Rattle.sheet.proofs.fields.width_of.Tie as tie
-
-field-at-requires : tie.Need-field-at-requires
-field-at-requires c κs = search needs
 
 returns : tie.Need-returns
 unfolding width
@@ -20,4 +16,4 @@ unfolding width
 returns-2 c = rw (le-ltb _ count (c .if1 .left))
 
 pub width-of-spec : {M : Type 1} → statement M
-width-of-spec = tie.close (tie.spec field-at-requires returns returns-2)
+width-of-spec = tie.close (tie.spec (λ c κs. search needs) returns returns-2)

@@ -1,11 +1,10 @@
 -- `sheet::figures::bed_figure` meets its contract: the test is the sign's.
--- Assumes nothing.
 use mathlib.Core.Path.{_≡_}
 use mir.Syntax.{w32}
 use mir.Val.{toZ, ofZ}
 use mir.Facts.{toZ-ofZ, fits-natAbs}
 use Rattle.sheet.specs.Sheets.{bedFigure}
-use Rattle.sheet.proofs.Beds.{above-chart, below-has-figure}
+use Rattle.sheet.proofs.figures.Beds.{above-chart, below-has-figure}
 use Rattle.sheet.proofs.figures.bed_figure.Statement.{statement}
 use Rattle.sheet.proofs.figures.bed_figure.Tie as tie
 use Rattle.sheet.proofs.figures.bed_figure.Reads as reads

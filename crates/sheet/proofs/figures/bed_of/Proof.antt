@@ -1,5 +1,4 @@
 -- `sheet::figures::bed_of` meets its contract: 16 bits have no sign.
--- Assumes nothing.
 use mathlib.Core.Path.{ap}
 use native.Mathlib.Omega.{arith}
 use borrow.Author.Needs.{needs}
@@ -9,11 +8,8 @@ use Rattle.datum.specs.Datum.{belowChart}
 use Rattle.sheet.proofs.figures.bed_of.Statement.{statement}
 use Rattle.sheet.proofs.figures.bed_of.Tie as tie
 
-cast-t2 : tie.Need-cast-t2
-cast-t2 c = search needs
-
 returns : tie.Need-returns
 returns c = ap belowChart (toZ-pos w32 (omega arith))
 
 pub bed-of-spec : {M : Type 1} → statement M
-bed-of-spec = tie.close (tie.spec cast-t2 returns)
+bed-of-spec = tie.close (tie.spec (λ c. search needs) returns)

@@ -1,24 +1,9 @@
 -- `sheet::figures::in_order` meets its contract: each figure is widened from its own field, and loses nothing.
--- Assumes nothing.
 use mir.Facts.{fits-widen}
 use borrow.Author.Needs.{needs}
 use Rattle.sheet.specs.Sheets.{figuresOf}
 use Rattle.sheet.proofs.figures.in_order.Statement.{statement}
 use Rattle.sheet.proofs.figures.in_order.Tie as tie
-use Rattle.sheet.proofs.figures.in_order.Reads as reads
-use Rattle.sheet.proofs.figures.in_order.Lts as lts
-use Rattle.sheet.proofs.figures.bed_figure.Reads as bed-figure-reads
-use Rattle.sheet.proofs.figures.level_figure.Reads as level-figure-reads
-use Rattle.sheet.proofs.figures.source_figure.Reads as source-figure-reads
-
-bed-figure-requires : tie.Need-bed-figure-requires
-bed-figure-requires c κs = search needs
-
-source-figure-requires : tie.Need-source-figure-requires
-source-figure-requires c κs = search needs
-
-level-figure-requires : tie.Need-level-figure-requires
-level-figure-requires c κs = search needs
 
 -- what is known of the sheet is a row of its fields' sizes: field k stands behind k others
 cast-t6 : tie.Need-cast-t6
@@ -100,9 +85,9 @@ pub in-order-spec : {M : Type 1} → statement M
 in-order-spec =
     tie.close
     (tie.spec
-    bed-figure-requires
-    source-figure-requires
-    level-figure-requires
+    (λ c κs. search needs)
+    (λ c κs. search needs)
+    (λ c κs. search needs)
     cast-t6
     cast-t7
     cast-t8

@@ -1,5 +1,4 @@
 -- `sheet::figures::level_source` meets its contract: the two cases of `levelSourceOf`.
--- Assumes nothing.
 use borrow.Author.Tests.{eq-eqb, ne-eqb}
 use Rattle.sheet.specs.Sheets.{levelSourceOf}
 use Rattle.sheet.proofs.figures.level_source.Statement.{statement}

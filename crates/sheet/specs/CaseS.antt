@@ -1,17 +1,10 @@
--- Case S of the definition's figures (section 11): its bytes and its sheet, computed.
-use mathlib.Core.Path.{_≡_, refl}
+-- Case S of the definition's figures (section 11): its sheet and its bytes.
 use mathlib.Core.List.{List, [], _∷_}
 use Prim.Native.Nat.{ℕ}
 use lib.IntN.{pos}
-use Rattle.laws.specs.First.{firstFrom}
 use Rattle.datum.specs.Datum.{belowChart}
-use Rattle.sheet.specs.Bits.{starts, joined, cut}
-use Rattle.sheet.specs.Fields.{fields, fieldAt, width, least, greatest, pairBad, badAt, firstBad}
-use Rattle.sheet.specs.Packing.{listed, numberOf, groupsOf, bytesOf}
-use Rattle.sheet.specs.Sheets.{levelSourceOf, sheetOf, bedFigure, sourceFigure, levelFigure, figuresOf, sheetFrom, readGroups, readOf}
 use Rattle.sheet.specs.declared.Sheet.{Sheet}
 use Rattle.sheet.specs.declared.LevelSource.the-variants.{Given}
-use Rattle.sheet.specs.declared.SheetRead.the-variants.{Good}
 
 abbrev pub sheetS : Sheet
 sheetS =
@@ -49,11 +42,3 @@ abbrev pub bytesS : List ℕ
 bytesS =
     9 ∷ 196 ∷ 3 ∷ 232 ∷ 78 ∷ 32 ∷ 93 ∷ 196 ∷ 15 ∷ 160 ∷ 30 ∷ 0 ∷ 26 ∷ 39 ∷ 16 ∷ 9 ∷ 96 ∷ 5 ∷ 10 ∷ 40 ∷ 75 ∷ 32 ∷ 0 ∷ 0 ∷ 0 ∷ 159
     ∷ 64 ∷ 0 ∷ []
-
-pub s-read : readOf bytesS ≡ Good sheetS
-unfolding starts joined cut firstFrom fields fieldAt width least greatest pairBad badAt firstBad listed numberOf groupsOf levelSourceOf sheetOf sheetFrom readGroups readOf
-s-read = refl
-
-pub s-written : bytesOf (figuresOf sheetS) ≡ bytesS
-unfolding starts joined cut fields fieldAt width listed bytesOf bedFigure sourceFigure levelFigure figuresOf
-s-written = refl

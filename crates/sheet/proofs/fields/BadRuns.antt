@@ -1,13 +1,12 @@
 -- The first bad field, by runs of fields that are tested against no other, and from there on.
--- Assumes nothing.
 use mathlib.Core.Path.{_≡_, refl, sym, _∙_}
 use mathlib.Core.List.{List}
 use Prim.Native.Nat.{ℕ, _+_, _-_, _≤_}
 use native.Mathlib.Omega.{arith}
 use Rattle.laws.specs.First.{firstFrom}
 use Rattle.sheet.specs.Fields.{count, outsideAt, firstOutside, badAt, firstBadFrom, firstBad}
-use Rattle.sheet.proofs.Rules.{alone}
-use Rattle.sheet.proofs.Runs.{past-run, in-run, same-run}
+use Rattle.sheet.proofs.fields.Rules.{alone}
+use Rattle.sheet.proofs.fields.Runs.{past-run, in-run, same-run}
 
 module _ (figures : List ℕ) where
   -- none of the first k fields is bad: the first is the first past them

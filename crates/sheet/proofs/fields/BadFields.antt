@@ -1,5 +1,4 @@
 -- The test of a bad field holds of the fields that the definition calls bad, and the first it finds is the least.
--- Assumes nothing.
 use mathlib.Core.Path.{_≡_, refl, sym, _∙_}
 use mathlib.Core.Bool.{Bool, true, false, _||_, _&&_, not, Bool·beq, true≢false}
 use mathlib.Core.List.{List}
@@ -12,7 +11,7 @@ use lib.Dec.{eqb, ltb}
 use Rattle.laws.specs.Extremes.{Least}
 use Rattle.laws.proofs.First.{FirstAt, first-is, is-first, is-none, none-is}
 use Rattle.sheet.specs.Fields.{count, nth, least, greatest, pairBad, badAt, firstBad, Bad, too-small, too-great, turn-without-radius, radius-without-turn, figure-without-source}
-use Rattle.sheet.proofs.Rules.{bad-small, bad-great}
+use Rattle.sheet.proofs.fields.Rules.{bad-small, bad-great}
 
 module _ (v : List ℕ) where
   -- the two pairs

@@ -7,9 +7,9 @@ use lib.ListN.{length}
 use Rattle.sheet.specs.Bits.{starts, joined, cut}
 use Rattle.sheet.specs.Fields.{groups, width, nth}
 use Rattle.sheet.specs.Packing.{size, eight, listed, numberOf, groupsOf, bytesOf, Narrow, Bytes}
-use Rattle.sheet.proofs.Groups.{joined-lt, cut-joined, joined-cut}
-use Rattle.sheet.proofs.Regroup.{joined-same, listed-at, listed-is}
-use Rattle.sheet.proofs.Widths.{same-size}
+use Rattle.sheet.proofs.bits.Groups.{joined-lt, cut-joined, joined-cut, cut-lt}
+use Rattle.sheet.proofs.bits.Regroup.{joined-same, listed-at, listed-is}
+use Rattle.sheet.proofs.bits.Widths.{same-size}
 
 -- groups of one kind, cut into groups of another, join to the same number
 pub regrouped : (w u v : ℕ → ℕ) (n m : ℕ) → starts w n ≡ starts u m → ((k : ℕ) → k < n → v k < 2 ^ w k)
@@ -33,3 +33,9 @@ groups-of-bytes v b k h =
 pub bytes-of-groups : (s : List ℕ) → length s ≡ size → Bytes s → bytesOf (groupsOf s) ≡ s
 unfolding groupsOf bytesOf numberOf
 bytes-of-groups s l b = sym (listed-is _ size s l (λ k h. sym (again eight width (nth s) size groups (sym same-size) b k h)))
+
+-- each group of bytes is within its bits
+pub groups-narrow : (bytes : List ℕ) → Narrow (groupsOf bytes)
+unfolding Narrow groupsOf
+groups-narrow bytes k h =
+    rw (listed-at (cut width groups (numberOf bytes)) 0 groups k h, zero-add) (cut-lt width groups (numberOf bytes) k)

@@ -1,6 +1,5 @@
 -- Figures that agree on the fields make one sheet, whatever stands behind them.
 use mathlib.Core.Path.{_≡_, refl, ap, sym, _∙_}
-use mathlib.Core.Bool.{Bool}
 use mathlib.Core.List.{List}
 use Prim.Native.Nat.{ℕ, _<_}
 use native.Mathlib.Nat.{zero-add}
@@ -8,9 +7,8 @@ use native.Mathlib.Omega.{arith}
 use Rattle.sheet.specs.Fields.{count, nth, pairBad, badAt, firstBad}
 use Rattle.sheet.specs.Packing.{listed}
 use Rattle.sheet.specs.Sheets.{sheetOf, sheetFrom}
-use Rattle.sheet.specs.declared.Sheet.{Sheet}
-use Rattle.sheet.proofs.Regroup.{listed-at, listed-is, listed-length}
-use Rattle.sheet.proofs.Runs.{same-run}
+use Rattle.sheet.proofs.bits.Regroup.{listed-at, listed-is, listed-length}
+use Rattle.sheet.proofs.fields.Runs.{same-run}
 
 -- the figures of the fields alone
 abbrev pub alone : List ℕ → List ℕ

@@ -21,9 +21,10 @@ use Rattle.sheet.specs.declared.Sheet.{Sheet}
 use Rattle.sheet.specs.declared.SheetRead.{SheetRead}
 use Rattle.sheet.specs.declared.SheetRead.the-variants.{Good, NoSheet}
 use Rattle.sheet.specs.declared.ReadFault.the-variants.{WrongLength, SpareBitSet, BadField}
-use Rattle.sheet.proofs.Answers.{read-length, read-from, from-good, figures-in}
-use Rattle.sheet.proofs.BadFields.{first-least, none-bad}
-use Rattle.sheet.proofs.Spare.{spare-set}
+use Rattle.sheet.proofs.sheets.Answers.{read-length, read-from, figures-in}
+use Rattle.sheet.proofs.fields.BadFields.{first-least, none-bad}
+use Rattle.sheet.proofs.sheets.Making.{from-good}
+use Rattle.sheet.proofs.bits.Spare.{spare-set}
 
 -- why a string of bytes is read as it is
 pub data Why (b : List ℕ) : SheetRead → Type 0 where
@@ -135,38 +136,3 @@ module _ (b : List ℕ) (small : Bytes b) where
   -- 28 bytes with no spare bit set are read as the sheet of their figures
   pub read-by-figures : length b ≡ size → ¬ SpareSet b → readOf b ≡ sheetFrom (figuresIn b)
   read-by-figures l h = sym (read-from b _ l refl (clear h)) ∙ sym (figures-in b)
-
--- what figures make: 3 with k exactly when k is the least bad field, and a sheet exactly when there is none
-module _ (v : List ℕ) where
-  from-cases : (P : SheetRead → Type 0) → (firstBad v ≡ 0 → P (Good (sheetOf v)))
-      → ((firstBad v ≡ 0 → ⊥) → P (NoSheet (BadField (firstBad v)))) → P (sheetFrom v)
-  unfolding sheetFrom
-  from-cases P fine named = go (eqb (firstBad v) 0) refl
-    where
-      go : (b : Bool) → eqb (firstBad v) 0 ≡ b → P (if b then Good (sheetOf v) else NoSheet (BadField (firstBad v)))
-      go true e = fine (eqb-true (firstBad v) 0 e)
-      go false e = named (eqb-false (firstBad v) 0 e)
-
-  pub from-named-exactly : (k : ℕ) → ((readNumber (sheetFrom v) ≡ 3) × (readField (sheetFrom v) ≡ k)) ↔ Least (Bad v) k
-  from-named-exactly k =
-      from-cases (λ (r : SheetRead). ((readNumber r ≡ 3) × (readField r ≡ k)) ↔ Least (Bad v) k)
-      (λ none. (
-        (λ e. absurd (omega (arith, e .0))),
-        (λ l. absurd (none-bad v .0 none k (l .holds))),
-      ))
-      (λ some. (
-        (λ e. first-least v k .0 (e .1, λ z. some (e .1 ∙ z))),
-        (λ l. (refl, first-least v k .1 l .0)),
-      ))
-
-  pub from-good-exactly : ((s : Sheet) × (sheetFrom v ≡ Good s)) ↔ ((k : ℕ) → ¬ Bad v k)
-  from-good-exactly =
-      from-cases (λ (r : SheetRead). ((s : Sheet) × (r ≡ Good s)) ↔ ((k : ℕ) → ¬ Bad v k))
-      (λ none. (
-        (λ g. none-bad v .0 none),
-        (λ h. (sheetOf v, refl)),
-      ))
-      (λ some. (
-        (λ g. let e = g .1 in let x : _≡_ {A = ℕ} 0 1 = cc in absurd (omega arith)),
-        (λ h. absurd (some (none-bad v .1 h))),
-      ))

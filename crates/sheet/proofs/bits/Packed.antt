@@ -1,5 +1,4 @@
 -- The bits of a sheet's bytes in a row are those of its fields and spare bits in a row.
--- Assumes nothing.
 use mathlib.Core.Path.{_≡_, refl, ap, ap₂, sym, _∙_}
 use mathlib.Core.List.{List, _++_}
 use Prim.Native.Nat.{ℕ, zero, suc, _+_, _*_, _/_, _%_, _^_, _<_}
@@ -9,9 +8,8 @@ use lib.Pow.{pow-pos, high, shr-shr}
 use Rattle.sheet.specs.Bits.{starts, joined, bitsOf, strung}
 use Rattle.sheet.specs.Fields.{groups, width, nth}
 use Rattle.sheet.specs.Packing.{size, eight, bitsOfBytes, bitsOfGroups, numberOf, groupsOf, Narrow, Bytes}
-use Rattle.sheet.proofs.RoundTrip.{regrouped}
-use Rattle.sheet.proofs.Valid.{groups-narrow}
-use Rattle.sheet.proofs.Widths.{same-size}
+use Rattle.sheet.proofs.bits.RoundTrip.{regrouped, groups-narrow}
+use Rattle.sheet.proofs.bits.Widths.{same-size}
 
 -- the low j bits of a number do not look at what stands before them
 low-bits : (j z y : ℕ) → bitsOf j (z * 2 ^ j + y) ≡ bitsOf j y

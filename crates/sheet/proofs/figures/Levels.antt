@@ -1,5 +1,4 @@
 -- A level and its two figures.
--- Assumes nothing.
 use mathlib.Core.Path.{_≡_, refl, sym}
 use mathlib.Core.Bool.{Bool, true, false}
 use Prim.Native.Nat.{ℕ, _≤_}
@@ -12,7 +11,7 @@ use Rattle.sheet.specs.declared.LevelSource.the-variants.{FromRecord, Gi
 
 -- a level comes back from its figures
 pub level-back : (l : LevelSource) → levelSourceOf (sourceFigure l) (levelFigure l) ≡ l
-unfolding levelSourceOf sourceFigure levelFigure
+unfolding levelSourceOf
 level-back FromRecord = refl
 level-back (Given level) = refl
 
@@ -22,7 +21,7 @@ pub record FiguresBack (source level : ℕ) : Type 0 where
   pub level-figure-back : levelFigure (levelSourceOf source level) ≡ level
 
 pub figures-back : (source level : ℕ) → source ≤ 1 → (source ≡ 0 → level ≡ 0) → FiguresBack source level
-unfolding levelSourceOf sourceFigure levelFigure
+unfolding levelSourceOf
 figures-back source level h none = go (eqb source 0) refl
   where
     go : (b : Bool) → eqb source 0 ≡ b → FiguresBack source level

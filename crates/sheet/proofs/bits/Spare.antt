@@ -1,5 +1,4 @@
 -- The spare bits: they are what stands past the fields' bits, and one is set exactly when their group is not 0.
--- Assumes nothing.
 use mathlib.Core.Path.{_≡_, refl, ap, sym, _∙_}
 use mathlib.Core.Bool.{Bool, true, false}
 use mathlib.Core.List.{List, _∷_, _++_}
@@ -15,8 +14,8 @@ use lib.Seq.{getD-append-add}
 use Rattle.sheet.specs.Bits.{bitsOf, strung, starts}
 use Rattle.sheet.specs.Fields.{count, width, nth}
 use Rattle.sheet.specs.Packing.{bitsOfBytes, groupsOf, Narrow, Bytes, SpareSet}
-use Rattle.sheet.proofs.Packed.{packed}
-use Rattle.sheet.proofs.Valid.{groups-narrow}
+use Rattle.sheet.proofs.bits.Packed.{packed}
+use Rattle.sheet.proofs.bits.RoundTrip.{groups-narrow}
 
 -- no bit of 0 is set
 no-bit : (w j : ℕ) → nth (bitsOf w 0) j ≡ 0

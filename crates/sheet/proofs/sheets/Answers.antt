@@ -7,13 +7,13 @@ use lib.ListN.{length, take, drop}
 use lib.Seq.{getD-take}
 use Rattle.sheet.specs.Fields.{count, nth, firstBad}
 use Rattle.sheet.specs.Packing.{size, groupsOf, figuresIn, bytesOf}
-use Rattle.sheet.specs.Sheets.{sheetOf, figuresOf, sheetFrom, readGroups, readOf, writtenOf, placeOf}
+use Rattle.sheet.specs.Sheets.{figuresOf, sheetFrom, readGroups, readOf, writtenOf, placeOf}
 use Rattle.sheet.specs.declared.Sheet.{Sheet}
-use Rattle.sheet.specs.declared.SheetRead.the-variants.{Good, NoSheet}
-use Rattle.sheet.specs.declared.ReadFault.the-variants.{WrongLength, SpareBitSet, BadField}
+use Rattle.sheet.specs.declared.SheetRead.the-variants.{NoSheet}
+use Rattle.sheet.specs.declared.ReadFault.the-variants.{WrongLength, SpareBitSet}
 use Rattle.sheet.specs.declared.SheetWritten.the-variants.{Done, NotWritten}
 use Rattle.sheet.specs.declared.WriteFault.the-variants.{PlaceTooSmall, BadField as BadFieldToWrite}
-use Rattle.sheet.proofs.SameFields.{sheet-from-same}
+use Rattle.sheet.proofs.figures.SameFields.{sheet-from-same}
 
 module _ (b : List ℕ) where
   pub read-length : (length b ≡ size → ⊥) → NoSheet WrongLength ≡ readOf b
@@ -33,23 +33,6 @@ module _ (b : List ℕ) where
   pub figures-in : sheetFrom (figuresIn b) ≡ sheetFrom (groupsOf b)
   unfolding figuresIn
   figures-in = sheet-from-same (take count (groupsOf b)) (groupsOf b) (λ k h. getD-take count (groupsOf b) k 0 h)
-
-module _ (v : List ℕ) (k : ℕ) (f : k ≡ firstBad v) where
-  pub from-bad : (k ≡ 0 → ⊥) → NoSheet (BadField k) ≡ sheetFrom v
-  unfolding sheetFrom
-  from-bad h = rw (← f, ne-eqb k 0 h)
-
-  pub from-good : (s : Sheet) → k ≡ 0 → s ≡ sheetOf v → Good s ≡ sheetFrom v
-  unfolding sheetFrom
-  from-good s h g = rw (← f, eq-eqb k 0 h, g)
-
-pub figures-spare : (s : Sheet) → nth (figuresOf s) count ≡ 0
-unfolding figuresOf
-figures-spare s = refl
-
-pub figures-length : (s : Sheet) → length (figuresOf s) ≡ count
-unfolding figuresOf
-figures-length s = refl
 
 module _ (s : Sheet) (place : List ℕ) where
   pub write-small : length place < size → (NotWritten PlaceTooSmall ≡ writtenOf s place) × (place ≡ placeOf s place)

@@ -1,5 +1,4 @@
 -- When a field is bad: each way out of the rule, and what a field that is not bad keeps.
--- Assumes nothing.
 use mathlib.Core.Path.{_≡_, refl, ap, sym, _∙_}
 use mathlib.Core.Bool.{Bool, true, false, _||_, true≢false}
 use mathlib.Core.List.{List}
@@ -8,7 +7,7 @@ use native.Mathlib.Omega.{arith}
 use borrow.Author.Tests.{lt-ltb, le-ltb, ltb-false, ne-eqb}
 use lib.Dec.{ltb}
 use lib.ListN.{List·getD-eq-default}
-use Rattle.sheet.specs.Fields.{field, fields, fieldAt, count, nth, least, greatest, outsideAt, pairBad, badAt}
+use Rattle.sheet.specs.Fields.{_bits_upto_, fields, fieldAt, count, nth, least, greatest, outsideAt, pairBad, badAt}
 
 or-assoc : (a b c : Bool) → ((a || b) || c) ≡ (a || (b || c))
 or-assoc true b c = refl
@@ -81,9 +80,9 @@ missed-past zero k m = omega arith
 missed-past (suc n) k m = let l : n ≤ k = missed-past n k (m .0) in let d : k ≡ n → ⊥ = m .1 in omega arith
 
 -- past the fields there is none
-pub no-field : (k : ℕ) → count ≤ k → field 0 0 0 ≡ fieldAt k
+pub no-field : (k : ℕ) → count ≤ k → (0 bits 0 upto 0) ≡ fieldAt k
 unfolding fieldAt fields
-no-field k h = sym (List·getD-eq-default fields (field 0 0 0) h)
+no-field k h = sym (List·getD-eq-default fields (0 bits 0 upto 0) h)
 
 pairs-later : (figures : List ℕ) (k : ℕ) → k < 25 → pairBad figures k ≡ false
 unfolding pairBad

@@ -7,7 +7,7 @@ use Prim.Native.Nat.{ℕ, _<_, _≤_}
 use native.Mathlib.Omega.{arith}
 use borrow.Author.Tests.{eqb-true, eqb-false, ltb-true, ltb-false}
 use lib.Dec.{eqb, ltb}
-use lib.ListN.{length, drop, length-append, length-drop}
+use lib.ListN.{length, take, drop, length-append, length-drop}
 use lib.Seq.{drop-at}
 use Rattle.laws.specs.Choice.{if_then_else_}
 use Rattle.laws.specs.Extremes.{Least}
@@ -16,15 +16,16 @@ use Rattle.laws.proofs.Extremes.{least-only}
 use Rattle.laws.proofs.Rows.{Told, stop, past, Call, exactly, refusal-exactly}
 use Rattle.sheet.specs.Fields.{firstBad, Bad}
 use Rattle.sheet.specs.Packing.{size, bytesOf}
-use Rattle.sheet.specs.Sheets.{figuresOf, writtenOf, placeOf}
+use Rattle.sheet.specs.Sheets.{figuresOf, readOf, writtenOf, placeOf, Valid}
 use Rattle.sheet.specs.Refusals.{writtenRows, writtenNumber, writtenField}
 use Rattle.sheet.specs.declared.Sheet.{Sheet}
+use Rattle.sheet.specs.declared.SheetRead.the-variants.{Good}
 use Rattle.sheet.specs.declared.SheetWritten.{SheetWritten}
 use Rattle.sheet.specs.declared.SheetWritten.the-variants.{Done, NotWritten}
 use Rattle.sheet.specs.declared.WriteFault.the-variants.{PlaceTooSmall, BadField as BadFieldToWrite}
-use Rattle.sheet.proofs.Answers.{write-small, write-done}
-use Rattle.sheet.proofs.BadFields.{first-least, none-bad}
-use Rattle.sheet.proofs.OneWriting.{bytes-length}
+use Rattle.sheet.proofs.sheets.Answers.{write-small, write-done}
+use Rattle.sheet.proofs.fields.BadFields.{first-least, none-bad}
+use Rattle.sheet.proofs.sheets.OneWriting.{bytes-length, read-place}
 
 -- why a writing is answered as it is, and what it leaves
 pub data Wrote (s : Sheet) (place : List ℕ) : SheetWritten → List ℕ → Type 0 where
@@ -113,6 +114,14 @@ module _ (s : Sheet) (place : List ℕ) where
       go w o (too-small h) e = let x : _≡_ {A = ℕ} 0 1 = cc in absurd (omega arith)
       go w o (bad-field j l f n) e = let x : _≡_ {A = ℕ} 0 1 = cc in absurd (omega arith)
       go w o (done l f) e = (l, none-bad (figuresOf s) .0 f)
+
+  -- what is written is read as the same sheet
+  pub read-done : writtenOf s place ≡ Done → readOf (take size (placeOf s place)) ≡ Good s
+  unfolding Valid
+  read-done e = go (done-exactly .0 e)
+    where
+      go : (size ≤ length place) × ((k : ℕ) → ¬ Bad (figuresOf s) k) → readOf (take size (placeOf s place)) ≡ Good s
+      go h = read-place s place (h .0) (none-bad (figuresOf s) .1 (h .1))
 
   -- a refused writing changes no byte
   pub refused-unchanged : (writtenOf s place ≡ Done → ⊥) → placeOf s place ≡ place

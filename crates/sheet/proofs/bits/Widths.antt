@@ -5,9 +5,9 @@ use native.Mathlib.Omega.{arith}
 use lib.Dec.{leb, ltb, leb→le, ltb→lt}
 use Rattle.laws.proofs.Every.{every-at}
 use Rattle.sheet.specs.Bits.{starts}
-use Rattle.sheet.specs.Fields.{groups, fields, fieldAt, width, greatest, count}
+use Rattle.sheet.specs.Fields.{groups, fields, fieldAt, width, greatest, count, spareBits}
 use Rattle.sheet.specs.Packing.{eight, size}
-use Rattle.sheet.proofs.Groups.{starts-le}
+use Rattle.sheet.proofs.bits.Groups.{starts-le}
 
 -- one test over the whole table, and the rule at each field
 pub width-le : (k : ℕ) → k < groups → width k ≤ 20
@@ -27,12 +27,12 @@ pub starts-width : starts width groups ≡ 224
 unfolding starts width fieldAt fields
 starts-width = refl
 
-pub starts-fields : starts width count ≡ 212
+pub starts-fields : starts width count + spareBits ≡ 224
 unfolding starts width fieldAt fields
 starts-fields = refl
 
 -- the spare bits
-pub width-spare : width count ≡ 12
+pub width-spare : width count ≡ spareBits
 unfolding width
 width-spare = refl
 

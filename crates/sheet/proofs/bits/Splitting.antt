@@ -9,14 +9,14 @@ use borrow.Author.Tests.{ltb-true, ltb-false}
 use lib.Dec.{ltb}
 use lib.ListN.{length, set, length-set, length-append, List·getD-append}
 use lib.Seq.{take-at, getD-at}
-use Rattle.sheet.specs.Fields.{count, groups, width, nth}
+use Rattle.sheet.specs.Fields.{count, groups, width, nth, spareBits}
 use Rattle.sheet.specs.Bits.{joined, cut}
 use Rattle.sheet.specs.Packing.{eight, listed, groupsOf, figuresIn, numberOf}
 use Rattle.sheet.specs.Regrouping.{Mid, wordAt, filledOf, SplitTo}
 use Rattle.sheet.specs.declared.bits.Between.{Between}
 use Rattle.sheet.specs.declared.bits.Held.{Held}
-use Rattle.sheet.proofs.Regroup.{mid-start, mid-in, mid-out, mid-set, mid-done, listed-is}
-use Rattle.sheet.proofs.Widths.{width-le, starts-eight, starts-width, starts-fields, width-spare, ends-width}
+use Rattle.sheet.proofs.bits.Regroup.{mid-start, mid-in, mid-out, mid-set, mid-done, listed-is}
+use Rattle.sheet.proofs.bits.Widths.{width-le, starts-eight, starts-width, starts-fields, width-spare, ends-width}
 
 module _ (bytes : List ℕ) (byte : (k : ℕ) → nth bytes k < 256) where
   pub word-lt : (k : ℕ) → wordAt bytes k < 2 ^ 32
@@ -95,7 +95,7 @@ split-start bytes found e = record { mid = mid-start eight (nth bytes) width (nt
 pub record SplitAll (bytes found : List ℕ) (spare : ℕ) : Type 0 where
   pub figures : found ≡ figuresIn bytes
   pub rest : spare ≡ nth (groupsOf bytes) count
-  pub small : spare < 2 ^ 12
+  pub small : spare < 2 ^ spareBits
 
 pub split-all : (bytes found : List ℕ) (between : Between) → SplitTo bytes found between count → SplitAll bytes found (between .held .bits)
 unfolding groupsOf figuresIn numberOf
@@ -103,30 +103,30 @@ split-all bytes found between s =
     record {
       figures = sym (rw (← all) (take-at found (b ∷ []) count (s .whole)));
       rest = rw (← all) (sym last);
-      small = rw twelve at (s .mid .tail .low);
+      small = rw held at (s .mid .tail .low);
     }
   where
     b : ℕ
     b = between .held .bits
 
-    twelve : between .held .n ≡ 12
-    twelve = omega (arith, s .few, s .mid .place, starts-eight (4 * between .words), starts-fields)
+    held : between .held .n ≡ spareBits
+    held = omega (arith, s .few, s .mid .place, starts-eight (4 * between .words), starts-fields)
 
     words : 4 * between .words ≡ 28
-    words = omega (arith, s .mid .place, starts-eight (4 * between .words), starts-fields, twelve)
+    words = omega (arith, s .mid .place, starts-eight (4 * between .words), starts-fields, held)
 
     last : nth (found ++ (b ∷ [])) count ≡ b
     last = getD-at found b [] 0 count (s .whole)
 
-    before : Mid eight (nth bytes) width (nth found) 28 count b 12
-    before = rw (words, twelve) at (s .mid)
+    before : Mid eight (nth bytes) width (nth found) 28 count b spareBits
+    before = rw (words, held) at (s .mid)
 
-    none : 12 - width count ≡ 0
+    none : spareBits - width count ≡ 0
     none = omega (arith, width-spare)
 
-    after : Mid eight (nth bytes) width (nth (found ++ (b ∷ []))) 28 groups (b % 2 ^ (12 - width count)) (12 - width count)
+    after : Mid eight (nth bytes) width (nth (found ++ (b ∷ []))) 28 groups (b % 2 ^ (spareBits - width count)) (spareBits - width count)
     after =
-        mid-out eight (nth bytes) width (nth found) (nth (found ++ (b ∷ []))) 28 count b 12 before (omega (arith, width-spare))
+        mid-out eight (nth bytes) width (nth found) (nth (found ++ (b ∷ []))) 28 count b spareBits before (omega (arith, width-spare))
         (λ k h. List·getD-append found (b ∷ []) 0 k (omega (arith, s .whole))) (last ∙ rw none (sym (div-one b)))
 
     all : found ++ (b ∷ []) ≡ listed (cut width groups (joined eight (nth bytes) 28)) 0 groups

@@ -1,5 +1,4 @@
 -- Bits taken in in groups of one kind and given out in groups of another: what holds between two steps, and at the end.
--- Assumes nothing.
 use mathlib.Core.Path.{_≡_, refl, ap, ap₂, sym, _∙_}
 use mathlib.Core.List.{List}
 use Prim.Native.Nat.{ℕ, zero, suc, _+_, _-_, _*_, _/_, _%_, _^_, _<_, _≤_}
@@ -13,8 +12,8 @@ use Rattle.sheet.specs.Bits.{starts, joined, cut}
 use Rattle.sheet.specs.Fields.{nth}
 use Rattle.sheet.specs.Packing.{listed}
 use Rattle.sheet.specs.Regrouping.{Mid}
-use Rattle.sheet.proofs.Groups.{cut-joined}
-use Rattle.sheet.proofs.Steps.{put-tail, take-tail, first-lt}
+use Rattle.sheet.proofs.bits.Groups.{cut-joined}
+use Rattle.sheet.proofs.bits.Steps.{put-tail, take-tail, first-lt}
 
 -- joining looks at the groups that it joins and at no other
 pub joined-same : (w u v : ℕ → ℕ) (n : ℕ) → ((k : ℕ) → k < n → u k ≡ v k) → joined w u n ≡ joined w v n
