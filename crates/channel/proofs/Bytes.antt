@@ -1,5 +1,4 @@
 -- The bytes that a read gave are within the most it could give.
--- Assumes nothing.
 use mathlib.Core.Path.{_≡_, subst}
 use Prim.Native.Nat.{ℕ, _≤_}
 use Rattle.channel.specs.Input.{GotWithin}

@@ -1,5 +1,4 @@
 -- Sheets of two blocks: how the input is cut changes nothing, as long as each block but the last is of whole sheets.
--- Assumes nothing.
 use mathlib.Core.Path.{_≡_, refl, sym, ap, ap₂, _∙_}
 use mathlib.Core.List.{List, [], _∷_, _++_}
 use Prim.Native.Nat.{ℕ, zero, suc, _+_, _*_, _/_}

@@ -1,5 +1,4 @@
 -- One sheet, a block of whole sheets and the bytes behind them, printed step by step.
--- Assumes nothing.
 use mathlib.Core.Path.{_≡_, sym, ap, _∙_}
 use mathlib.Core.Bool.{true, false}
 use mathlib.Core.List.{List}

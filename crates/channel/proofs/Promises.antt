@@ -1,8 +1,8 @@
 -- What the printing program promises of the sheets that it has read (section 10). `sheetPrinted` is what `print_sheet` ensures, `blockPrinted`
--- what `print_block` does and `restPrinted` what `print_rest` does. Assumes nothing.
+-- what `print_block` does and `restPrinted` what `print_rest` does.
 use mathlib.Core.Path.{_≡_, refl}
 use mathlib.Core.List.{List, _++_}
-use Prim.Native.Nat.{ℕ, _+_, _*_, _≤_, _<_}
+use Prim.Native.Nat.{ℕ, _*_, _≤_, _<_}
 use lib.ListN.{length, take, drop}
 use Rattle.gauge.specs.declared.LevelRead.{LevelRead}
 use Rattle.design.specs.Design.{designAt}

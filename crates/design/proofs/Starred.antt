@@ -7,7 +7,7 @@ use Rattle.datum.specs.Datum.{naturalDepth, datumDepth}
 use Rattle.sheet.specs.Bits.{starts, joined, cut}
 use Rattle.sheet.specs.Fields.{fields, fieldAt, width, least, greatest, pairBad, badAt, firstBad}
 use Rattle.sheet.specs.Packing.{listed, numberOf, groupsOf, bytesOf}
-use Rattle.sheet.specs.Sheets.{levelSourceOf, sheetOf, sheetFrom, bedFigure, sourceFigure, levelFigure, figuresOf, readGroups, readOf}
+use Rattle.sheet.specs.Sheets.{levelSourceOf, sheetOf, sheetFrom, bedFigure, figuresOf, readGroups, readOf}
 use Rattle.sheet.specs.declared.Sheet.{Sheet}
 use Rattle.sheet.specs.declared.SheetRead.the-variants.{Good}
 use Rattle.lanes.specs.Lanes.{byTraffic, lanesOf}
@@ -25,10 +25,10 @@ use Rattle.design.specs.Numbers.{numbersOf}
 use Rattle.design.specs.Starred.{writing, starredSheets, starredNumbers}
 
 pub starred-read : map (λ (s : Sheet). readOf (writing s)) starredSheets ≡ map Good starredSheets
-unfolding starts joined cut firstFrom fields fieldAt width least greatest pairBad badAt firstBad listed numberOf groupsOf bytesOf levelSourceOf sheetOf sheetFrom bedFigure sourceFigure levelFigure figuresOf readGroups readOf
+unfolding starts joined cut firstFrom fields fieldAt width least greatest pairBad badAt firstBad listed numberOf groupsOf bytesOf levelSourceOf sheetOf sheetFrom bedFigure figuresOf readGroups readOf
 starred-read = refl
 
 -- no case has its level off the record, so the table may be any
 pub starred : (table : List ℕ) → map (λ (s : Sheet). numbersOf (designOf (writing s) table)) starredSheets ≡ starredNumbers
-unfolding starts joined cut firstFrom fields fieldAt width least greatest pairBad badAt firstBad listed numberOf groupsOf bytesOf levelSourceOf sheetOf sheetFrom bedFigure sourceFigure levelFigure figuresOf readGroups readOf squatEntry z3 z4 columnOf sailing sailingWith siltTo figure columnTry findingOf movesOn walk tries answerOf workDepth intervalOf naturalDepth datumDepth byTraffic lanesOf waterOf speedBandOf crossEntry alongItem waveEntry entriesOf laneItem windItem aidsItem bedItem depthItem cargoItem bankItem banksItem passingItem trafficItem itemsOf tenthsOf widthOf leastLengths wideningOf bendOf classBy designFigures pastEntries pastBend atLevel ofSheet designAt designOf numbersOf
+unfolding starts joined cut firstFrom fields fieldAt width least greatest pairBad badAt firstBad listed numberOf groupsOf bytesOf levelSourceOf sheetOf sheetFrom bedFigure figuresOf readGroups readOf squatEntry z3 z4 columnOf sailing sailingWith siltTo figure columnTry findingOf movesOn walk tries answerOf workDepth intervalOf naturalDepth datumDepth byTraffic lanesOf waterOf speedBandOf crossEntry alongItem waveEntry entriesOf laneItem windItem aidsItem bedItem depthItem cargoItem bankItem banksItem passingItem trafficItem itemsOf tenthsOf widthOf leastLengths wideningOf bendOf classBy designFigures pastEntries pastBend atLevel ofSheet designAt designOf numbersOf
 starred table = refl

@@ -1,5 +1,4 @@
 -- Numbers written one after another: after i of them stand their bytes, then what stood there before.
--- Assumes nothing.
 use Prim.Native.Nat.{ℕ, _+_, _*_, _<_, _≤_}
 use native.Mathlib.Omega.{arith}
 use native.Mathlib.Numerals.{add-one}

@@ -1,5 +1,4 @@
 -- What the call from C promises (section 9).
--- Assumes nothing.
 use mathlib.Core.Path.{_≡_}
 use mathlib.Core.List.{List}
 use mathlib.Core.Logic.{_↔_}

@@ -1,6 +1,5 @@
 -- `plan::put_numbers` meets its contract: after i numbers stand their bytes, then what stood there before.
--- Assumes nothing.
-use Prim.Native.Nat.{_+_, _*_, _-_, _≤_}
+use Prim.Native.Nat.{_*_, _-_, _≤_}
 use mathlib.Core.Path.{_≡_, refl, _∙_}
 use mathlib.Core.List.{_++_}
 use native.Mathlib.Omega.{arith}
@@ -16,10 +15,6 @@ use Rattle.plan.specs.Words.{wordBytes, bytesOfNumbers}
 use Rattle.plan.proofs.Placing.{one-more}
 use Rattle.plan.proofs.put_numbers.Statement.{statement}
 use Rattle.plan.proofs.put_numbers.Tie as tie
-use Rattle.plan.proofs.put_numbers.Reads as reads
-use Rattle.plan.proofs.put_numbers.Lts as lts
-use Rattle.plan.proofs.put_word.Reads as put-word-reads
-use Rattle.plan.proofs.word_of.Reads as word-of-reads
 
 abbrev Inv-loop : tie.InvT-loop
 Inv-loop place₀ numbers i₀ place i =
@@ -36,9 +31,6 @@ mul-number c = omega arith
 
 array-copy-out-number : tie.Need-array-copy-out-number Inv-loop μ-loop
 array-copy-out-number c = omega arith
-
-word-of-requires : tie.Need-word-of-requires Inv-loop μ-loop
-word-of-requires c κs = search needs
 
 mul-put-word : tie.Need-mul-put-word Inv-loop μ-loop
 mul-put-word c = omega arith
@@ -84,7 +76,7 @@ put-numbers-spec =
     loop-holds
     mul-number
     array-copy-out-number
-    word-of-requires
+    (λ c κs. search needs)
     mul-put-word
     put-word-requires
     add-i

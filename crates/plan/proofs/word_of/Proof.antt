@@ -1,5 +1,4 @@
 -- `plan::word_of` meets its contract: a negative number's bits are all ones less what it lies under -1.
--- Assumes nothing.
 use mathlib.Core.Path.{_≡_}
 use lib.IntN.{ℤ}
 use mir.Syntax.{w32}

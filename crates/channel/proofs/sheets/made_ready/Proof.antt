@@ -1,24 +1,13 @@
 -- `channel::sheets::made_ready` meets its contract: the place stays where a line fits, and begins again where none does.
--- Assumes nothing.
 use mathlib.Core.Path.{refl, sym, _∙_}
 use Rattle.channel.proofs.Printing.{place-kept, place-first}
 use denote.Ref.{now}
 use borrow.Author.Needs.{needs}
 use Rattle.channel.proofs.sheets.made_ready.Statement.{statement}
 use Rattle.channel.proofs.sheets.made_ready.Tie as tie
-use Rattle.channel.proofs.sheets.made_ready.Reads as reads
-use Rattle.channel.proofs.sheets.made_ready.Lts as lts
-use Rattle.channel.proofs.sheets.put_out.Reads as put-out-reads
-use Rattle.lines.proofs.line_fits.Reads as line-fits-reads
-
-line-fits-requires : tie.Need-line-fits-requires
-line-fits-requires c κs = search needs
 
 returns : tie.Need-returns
 returns c = let a = c .before .before .before .before .args in (place-kept (now (a .buffer)) (a .state .at) (sym (c .before .line-fits .ensures) ∙ c .if1 .taken), refl)
-
-put-out-requires : tie.Need-put-out-requires
-put-out-requires c κs = search needs
 
 returns-2 : tie.Need-returns-2
 returns-2 c =
@@ -26,4 +15,4 @@ returns-2 c =
     (place-first (now (a .buffer)) (a .state .at) (sym (c .before .before .line-fits .ensures) ∙ c .before .if1 .left), refl)
 
 pub made-ready-spec : {M : Type 1} → statement M
-made-ready-spec = tie.close (tie.spec line-fits-requires returns put-out-requires returns-2)
+made-ready-spec = tie.close (tie.spec (λ c κs. search needs) returns (λ c κs. search needs) returns-2)

@@ -1,5 +1,4 @@
 -- `channel::sheets::print_block` meets its contract: each turn takes one whole sheet of what is left.
--- Assumes nothing.
 use mathlib.Core.Path.{_≡_, refl, sym, _∙_}
 use Prim.Native.Nat.{_+_, _-_, _≤_}
 use native.Mathlib.Omega.{arith}
@@ -10,9 +9,6 @@ use Rattle.channel.proofs.Printing.{block-from, block-over}
 use borrow.Author.Needs.{needs}
 use Rattle.channel.proofs.sheets.print_block.Statement.{statement}
 use Rattle.channel.proofs.sheets.print_block.Tie as tie
-use Rattle.channel.proofs.sheets.print_block.Reads as reads
-use Rattle.channel.proofs.sheets.print_block.Lts as lts
-use Rattle.channel.proofs.sheets.print_sheet.Reads as print-sheet-reads
 
 abbrev Inv-loop : tie.InvT-loop
 Inv-loop level block buffer₀ now₀ from₀ buffer now from =
@@ -22,30 +18,6 @@ Inv-loop level block buffer₀ now₀ from₀ buffer now from =
 
 abbrev μ-loop : tie.MeasureT-loop
 μ-loop level block buffer₀ now₀ from₀ buffer now from = length block - from
-
-loop-holds : tie.Need-loop-holds Inv-loop μ-loop
-loop-holds c = search needs
-
-sub-loop : tie.Need-sub-loop Inv-loop μ-loop
-sub-loop c = search needs
-
-add-to : tie.Need-add-to Inv-loop μ-loop
-add-to c = search needs
-
-sub-print-sheet : tie.Need-sub-print-sheet Inv-loop μ-loop
-sub-print-sheet c = search needs
-
-part-print-sheet-start : tie.Need-part-print-sheet-start Inv-loop μ-loop
-part-print-sheet-start c = search needs
-
-part-print-sheet-end : tie.Need-part-print-sheet-end Inv-loop μ-loop
-part-print-sheet-end c = search needs
-
-print-sheet-requires : tie.Need-print-sheet-requires Inv-loop μ-loop
-print-sheet-requires c κs = search needs
-
-loop-less : tie.Need-loop-less Inv-loop μ-loop
-loop-less c = search needs
 
 loop-again : tie.Need-loop-again Inv-loop μ-loop
 loop-again c =
@@ -60,9 +32,6 @@ loop-again c =
           ∙ l .inv .2,
     )
 
-same-length : tie.Need-same-length Inv-loop μ-loop
-same-length c = search needs
-
 returns : tie.Need-returns Inv-loop μ-loop
 returns c =
     let l = c .before .loop in
@@ -75,14 +44,14 @@ print-block-spec =
     (tie.spec
     Inv-loop
     μ-loop
-    loop-holds
-    sub-loop
-    add-to
-    sub-print-sheet
-    part-print-sheet-start
-    part-print-sheet-end
-    print-sheet-requires
-    loop-less
+    (λ c. search needs)
+    (λ c. search needs)
+    (λ c. search needs)
+    (λ c. search needs)
+    (λ c. search needs)
+    (λ c. search needs)
+    (λ c κs. search needs)
+    (λ c. search needs)
     loop-again
-    same-length
+    (λ c. search needs)
     returns)

@@ -1,34 +1,8 @@
 -- `channel::sheets::print_sheet` meets its contract: a place for the line, the answer, the route with it, its numbers, its line.
--- Assumes nothing.
 use Rattle.channel.proofs.Printing.{line-printed}
 use borrow.Author.Needs.{needs}
 use Rattle.channel.proofs.sheets.print_sheet.Statement.{statement}
 use Rattle.channel.proofs.sheets.print_sheet.Tie as tie
-use Rattle.channel.proofs.sheets.print_sheet.Reads as reads
-use Rattle.channel.proofs.sheets.print_sheet.Lts as lts
-use Rattle.channel.proofs.sheets.made_ready.Reads as made-ready-reads
-use Rattle.channel.proofs.sheets.with_sheet.Reads as with-sheet-reads
-use Rattle.design.proofs.design_at.Reads as design-at-reads
-use Rattle.design.proofs.numbers.Reads as numbers-reads
-use Rattle.lines.proofs.put_sheet_line.Reads as put-sheet-line-reads
-
-made-ready-requires : tie.Need-made-ready-requires
-made-ready-requires c κs = search needs
-
-design-at-requires : tie.Need-design-at-requires
-design-at-requires c κs = search needs
-
-with-sheet-requires : tie.Need-with-sheet-requires
-with-sheet-requires c κs = search needs
-
-numbers-requires : tie.Need-numbers-requires
-numbers-requires c κs = search needs
-
-put-sheet-line-requires : tie.Need-put-sheet-line-requires
-put-sheet-line-requires c κs = search needs
-
-same-length : tie.Need-same-length
-same-length c = search needs
 
 returns : tie.Need-returns
 returns c =
@@ -44,10 +18,10 @@ pub print-sheet-spec : {M : Type 1} → statement M
 print-sheet-spec =
     tie.close
     (tie.spec
-    made-ready-requires
-    design-at-requires
-    with-sheet-requires
-    numbers-requires
-    put-sheet-line-requires
-    same-length
+    (λ c κs. search needs)
+    (λ c κs. search needs)
+    (λ c κs. search needs)
+    (λ c κs. search needs)
+    (λ c κs. search needs)
+    (λ c. search needs)
     returns)
