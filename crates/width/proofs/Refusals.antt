@@ -2,7 +2,8 @@
 use mathlib.Core.Path.{_≡_, refl}
 use mathlib.Core.Bool.{Bool, true, false}
 use mathlib.Core.Logic.{_⊎_, inl, inr}
-use Prim.Native.Nat.{ℕ, _*_, _<_}
+use Prim.Native.Nat.{ℕ, _*_, _≤_, _<_}
+use native.Mathlib.Nat.{mul-le-mul-left}
 use native.Mathlib.Omega.{arith}
 use borrow.Author.Tests.{eqb-true, eqb-false, eq-eqb, ltb-true, ltb-false}
 use lib.Dec.{ltb, eqb}
@@ -13,7 +14,7 @@ use Rattle.datum.specs.declared.CrossCurrent.{CrossCurrent}
 use Rattle.lanes.specs.declared.Lanes.{Lanes}
 use Rattle.width.specs.Bands.{waterOf, speedBandOf, crossEntry, waveEntry, entriesBy, entriesOf}
 use Rattle.width.specs.Bends.{leastLengths, bendOf, wideningFigure}
-use Rattle.width.specs.Refusals.{bendNumber, entriesNumber, NoWidthEntry, bendRows, entriesRows}
+use Rattle.width.specs.Refusals.{bendNumber, entriesNumber, TightBend, NoWidthEntry, bendRows, entriesRows}
 use Rattle.width.specs.declared.Water.{Water}
 use Rattle.width.specs.declared.Water.the-variants.{Open, Sheltered}
 use Rattle.width.specs.declared.SpeedBand.{SpeedBand}
@@ -105,3 +106,17 @@ module _ (turn radius length knots : ℕ) (lanes : Lanes) where
 
   pub bend-exactly : Exactly (bendRows turn radius length) (bendNumber (bendOf turn radius length knots lanes))
   bend-exactly = exactly bends (bendRows turn radius length) tt (bendOf turn radius length knots lanes) bend-told
+
+-- a row that turns a sheet away turns a harder one away: a longer ship, a stronger cross current, a higher wave
+pub tight-too : (turn radius length length' : ℕ) → length ≤ length' → TightBend turn radius length → TightBend turn radius length'
+tight-too turn radius length length' longer row =
+    let reach : leastLengths turn * length ≤ leastLengths turn * length' = mul-le-mul-left (leastLengths turn) longer in
+    record { bent = row .bent; under = omega (arith, row .under) }
+
+pub missing-too : (water : ℕ) (cross cross' : CrossCurrent) (wave wave' : ℕ) → cross .0 ≤ cross' .0 → wave ≤ wave'
+    → NoWidthEntry water cross wave → NoWidthEntry water cross' wave'
+missing-too water cross cross' wave wave' stronger higher row = record { sheltered = row .sheltered; beyond = go (row .beyond) }
+  where
+    go : (15 < cross .0) ⊎ (100 < wave) → (15 < cross' .0) ⊎ (100 < wave')
+    go (inl over) = inl (omega arith)
+    go (inr over) = inr (omega arith)

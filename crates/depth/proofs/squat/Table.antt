@@ -6,7 +6,7 @@ use mathlib.Core.List.{[]}
 use Prim.Native.Nat.{ℕ, _+_, _-_, _*_, _≤_, _<_}
 use native.Mathlib.Omega.{arith}
 use borrow.Author.Tests.{ltb-true, ltb-false, lt-ltb, le-ltb}
-use lib.Dec.{T, leb, ltb, leb→le, le→leb}
+use lib.Dec.{T, ltb, leb→le, le→leb}
 use lib.ListN.{getD}
 use Rattle.laws.specs.Choice.{if_then_else_, _≤ᵇ_}
 use Rattle.laws.specs.Every.{every}
