@@ -1,4 +1,4 @@
-pub mod Signs
-pub mod Placing
-pub mod Planning
+mod Signs
+mod Placing
+mod Planning
 pub mod Promises
