@@ -1,4 +1,4 @@
-pub mod Bytes
-pub mod Printing
-pub mod Joined
+mod Bytes
+mod Printing
+mod Joined
 pub mod Promises
