@@ -1,10 +1,9 @@
 -- Each row that turns the easier of two sheets away turns the harder away, or leaves it without a depth, and what meets the harder one's depth meets the easier one's; so where
 -- the harder is answered both are, and only their figures are left to compare.
-use mathlib.Core.Path.{_≡_, refl, sym, ap, ap₂, subst, _∙_}
+use mathlib.Core.Path.{_≡_, refl, sym, ap, ap₂, subst}
 use mathlib.Core.List.{List}
-use mathlib.Core.Logic.{_⊎_, inl, inr}
-use Prim.Native.Nat.{ℕ, _*_, _≤_, _<_}
-use native.Mathlib.Nat.{mul-le-mul}
+use mathlib.Core.Logic.{inl, inr}
+use Prim.Native.Nat.{ℕ, _≤_}
 use native.Mathlib.Omega.{arith}
 use lib.IntN.{ℤ, pos}
 use lib.Dec.{le→leb}
@@ -31,7 +30,8 @@ use Rattle.depth.specs.Reasons.{FirstUnusable}
 use Rattle.depth.specs.declared.DepthFault.{DepthFault}
 use Rattle.depth.specs.declared.DepthFault.the-variants.{NoSquatEntry, SiltOver, CutOver}
 use Rattle.depth.proofs.Promises.{meets-the-easier, unusable-none}
-use Rattle.width.specs.Bends.{leastLengths}
+use Rattle.width.specs.Refusals.{TightBend, NoWidthEntry}
+use Rattle.width.proofs.Refusals.{tight-too, missing-too}
 use Rattle.design.specs.Design.{lanesFor}
 use Rattle.design.specs.Refusals.{sheetIn, levelIn, levelFrom, rows, BendTight, EntryMissing, OffRecord}
 use Rattle.design.specs.Answers.{stretchOf, FiguresAre}
@@ -59,24 +59,18 @@ module _ (easy hard table : List ℕ) (read : readOf easy ≡ Good (sheetIn easy
   off-record-too : (Fault : Type 0) → OffRecord (s .level) Fault → OffRecord (s' .level) Fault
   off-record-too Fault = subst (λ (source : LevelSource). OffRecord source Fault) level-same
 
-  tight-too : BendTight s → BendTight s'
+  tight : BendTight s → BendTight s'
   unfolding sheetOf
-  tight-too row =
-      let turn = c .same 25 refl in
-      let radius = c .same 26 refl in
-      let lengths : leastLengths (s .turn) ≡ leastLengths (s' .turn) = ap leastLengths turn in
-      let product : leastLengths (s .turn) * s .length ≤ leastLengths (s' .turn) * s' .length =
-      mul-le-mul (omega arith) (c .rises 3 refl) in
-      record { bent = λ e. row .bent (turn ∙ e); under = omega (arith, row .under) }
+  tight row =
+      tight-too (s' .turn) (s' .radius) (s .length) (s' .length) (c .rises 3 refl)
+      (subst (λ (turn : ℕ). TightBend turn (s' .radius) (s .length)) (c .same 25 refl)
+      (subst (λ (radius : ℕ). TightBend (s .turn) radius (s .length)) (c .same 26 refl) row))
 
-  missing-too : EntryMissing s → EntryMissing s'
+  missing : EntryMissing s → EntryMissing s'
   unfolding sheetOf
-  missing-too row =
-      record { sheltered = sym (c .same 14 refl) ∙ row .sheltered; beyond = go (row .beyond) }
-    where
-      go : (15 < s .cross .0) ⊎ (100 < s .wave) → (15 < s' .cross .0) ⊎ (100 < s' .wave)
-      go (inl over) = inl (omega (arith, c .rises 17 refl))
-      go (inr over) = inr (omega (arith, c .rises 19 refl))
+  missing row =
+      missing-too (s' .water) (s .cross) (s' .cross) (s .wave) (s' .wave) (c .rises 17 refl) (c .rises 19 refl)
+      (subst (λ (water : ℕ). NoWidthEntry water (s .cross) (s .wave)) (c .same 14 refl) row)
 
   pub level-in-same : levelIn s table ≡ levelIn s' table
   level-in-same = ap (λ (source : LevelSource). levelFrom source table) level-same
@@ -123,8 +117,8 @@ module _ (easy hard table : List ℕ) (read : readOf easy ≡ Good (sheetIn easy
         & (λ h row. h (off-record-too _ row))
         & (λ h row. h (off-record-too _ row))
         & (λ h row. h (off-record-too _ row))
-        & (λ h row. h (tight-too row))
-        & (λ h row. h (missing-too row))
+        & (λ h row. h (tight row))
+        & (λ h row. h (missing row))
         & (λ h row. no-depth-too NoSquatEntry row d meets)
         & (λ h row. no-depth-too SiltOver row d meets)
         & (λ h row. no-depth-too CutOver row d meets)
