@@ -10,23 +10,23 @@ use Rattle.sheet.specs.Sheets.{sheetOf, sheetFrom}
 use Rattle.sheet.proofs.bits.Regroup.{listed-at, listed-is, listed-length}
 use Rattle.sheet.proofs.fields.Runs.{same-run}
 
--- the figures of the fields alone
-abbrev pub alone : List ℕ → List ℕ
-alone v = listed (nth v) 0 count
+-- the figures of the fields, and nothing behind them
+abbrev pub onlyFields : List ℕ → List ℕ
+onlyFields v = listed (nth v) 0 count
 
-pub alone-at : (v : List ℕ) (k : ℕ) → k < count → nth (alone v) k ≡ nth v k
-alone-at v k h = listed-at (nth v) 0 count k h ∙ ap (nth v) (zero-add k)
+pub only-fields-at : (v : List ℕ) (k : ℕ) → k < count → nth (onlyFields v) k ≡ nth v k
+only-fields-at v k h = listed-at (nth v) 0 count k h ∙ ap (nth v) (zero-add k)
 
-sheet-alone : (v : List ℕ) → sheetOf v ≡ sheetOf (alone v)
+sheet-of-only-fields : (v : List ℕ) → sheetOf v ≡ sheetOf (onlyFields v)
 unfolding sheetOf listed
-sheet-alone v = refl
+sheet-of-only-fields v = refl
 
 module _ (v w : List ℕ) (same : (k : ℕ) → k < count → nth v k ≡ nth w k) where
-  pub alone-same : alone v ≡ alone w
-  alone-same = listed-is (nth w) count (alone v) (listed-length (nth v) 0 count) (λ k h. alone-at v k h ∙ same k h)
+  pub only-fields-same : onlyFields v ≡ onlyFields w
+  only-fields-same = listed-is (nth w) count (onlyFields v) (listed-length (nth v) 0 count) (λ k h. only-fields-at v k h ∙ same k h)
 
   pub sheet-same : sheetOf v ≡ sheetOf w
-  sheet-same = sheet-alone v ∙ ap sheetOf alone-same ∙ sym (sheet-alone w)
+  sheet-same = sheet-of-only-fields v ∙ ap sheetOf only-fields-same ∙ sym (sheet-of-only-fields w)
 
   bad-same : (k : ℕ) → k < count → badAt v k ≡ badAt w k
   unfolding badAt pairBad

@@ -22,7 +22,7 @@ use Rattle.sheet.proofs.bits.Regroup.{listed-is}
 use Rattle.sheet.proofs.fields.BadFields.{first-least, none-bad}
 use Rattle.sheet.proofs.figures.Beds.{bed-back}
 use Rattle.sheet.proofs.figures.Levels.{level-back, figures-back}
-use Rattle.sheet.proofs.figures.SameFields.{alone, alone-at, first-bad-same}
+use Rattle.sheet.proofs.figures.SameFields.{onlyFields, only-fields-at, first-bad-same}
 use Rattle.sheet.proofs.sheets.Valid.{fine}
 
 module _ (v : List ℕ) (k : ℕ) (f : k ≡ firstBad v) where
@@ -57,7 +57,7 @@ unfolding pairBad
 no-level v p h = eqb-true (nth v 27) 0 (not-false _ (and-false (eqb (nth v 26) 0) _ p (eq-eqb (nth v 26) 0 h)))
 
 -- figures of which none is bad are those of their sheet
-pub figures-of-sheet : (v : List ℕ) → firstBad v ≡ 0 → figuresOf (sheetOf v) ≡ alone v
+pub figures-of-sheet : (v : List ℕ) → firstBad v ≡ 0 → figuresOf (sheetOf v) ≡ onlyFields v
 unfolding sheetOf figuresOf bedFigure listed
 figures-of-sheet v e =
     let source = fine v e 26 (omega arith) in
@@ -67,7 +67,7 @@ figures-of-sheet v e =
 
 pub valid-sheet : (v : List ℕ) → firstBad v ≡ 0 → Valid (sheetOf v)
 unfolding Valid
-valid-sheet v e = rw (figures-of-sheet v e) (first-bad-same (alone v) v (alone-at v) ∙ e)
+valid-sheet v e = rw (figures-of-sheet v e) (first-bad-same (onlyFields v) v (only-fields-at v) ∙ e)
 
 -- a valid sheet is that of its figures
 pub from-figures : (s : Sheet) → Valid s → sheetFrom (figuresOf s) ≡ Good s

@@ -19,7 +19,7 @@ use Rattle.sheet.specs.declared.SheetRead.the-variants.{Good, NoSheet}
 use Rattle.sheet.specs.declared.ReadFault.the-variants.{WrongLength, SpareBitSet}
 use Rattle.sheet.proofs.bits.Regroup.{joined-same, listed-length}
 use Rattle.sheet.proofs.bits.RoundTrip.{groups-of-bytes, bytes-of-groups}
-use Rattle.sheet.proofs.figures.SameFields.{alone, alone-at, sheet-from-same}
+use Rattle.sheet.proofs.figures.SameFields.{onlyFields, only-fields-at, sheet-from-same}
 use Rattle.sheet.proofs.sheets.Making.{figures-of-sheet, valid-sheet, from-figures, made}
 use Rattle.sheet.proofs.sheets.Valid.{fine-narrow, figures-end, figures-spare}
 use Rattle.sheet.proofs.sheets.Answers.{read-from}
@@ -64,21 +64,21 @@ pub read-valid : (b : List ℕ) (s : Sheet) → readOf b ≡ Good s → Valid s
 read-valid b s e = let a = accepted b s e in rw (← a .sheet) (valid-sheet (groupsOf b) (a .none))
 
 -- figures with no spare bit are written in the bytes of those of their fields
-bytes-alone : (v : List ℕ) → nth v count ≡ 0 → bytesOf (alone v) ≡ bytesOf v
+bytes-of-only-fields : (v : List ℕ) → nth v count ≡ 0 → bytesOf (onlyFields v) ≡ bytesOf v
 unfolding bytesOf
-bytes-alone v z =
+bytes-of-only-fields v z =
     ap (λ (x : ℕ). listed (cut eight size x) 0 size)
-    (joined-same width (nth (alone v)) (nth v) groups
-    (below-more (λ (k : ℕ). nth (alone v) k ≡ nth v k) count (alone-at v)
-    (figures-end (alone v) (listed-length (nth v) 0 count) ∙ sym z)))
+    (joined-same width (nth (onlyFields v)) (nth v) groups
+    (below-more (λ (k : ℕ). nth (onlyFields v) k ≡ nth v k) count (only-fields-at v)
+    (figures-end (onlyFields v) (listed-length (nth v) 0 count) ∙ sym z)))
 
 -- where bytes are read as a sheet, it is valid, and they are its writing
 pub written-read : (b : List ℕ) (s : Sheet) → Bytes b → readOf b ≡ Good s → Written b s
 written-read b s small e =
     let a = accepted b s e in
     let v = groupsOf b in
-    let back : figuresOf s ≡ alone v = ap figuresOf (sym (a .sheet)) ∙ figures-of-sheet v (a .none) in
-    record { valid = read-valid b s e; writing = rw back (sym (bytes-alone v (a .spare) ∙ bytes-of-groups b (a .long) small)) }
+    let back : figuresOf s ≡ onlyFields v = ap figuresOf (sym (a .sheet)) ∙ figures-of-sheet v (a .none) in
+    record { valid = read-valid b s e; writing = rw back (sym (bytes-of-only-fields v (a .spare) ∙ bytes-of-groups b (a .long) small)) }
 
 pub one-writing : (a b : List ℕ) (s : Sheet) → Bytes a → Bytes b → readOf a ≡ Good s → readOf b ≡ Good s → a ≡ b
 one-writing a b s ha hb ea eb = written-read a s ha ea .writing ∙ sym (written-read b s hb eb .writing)
