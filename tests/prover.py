@@ -24,7 +24,7 @@ def crates():
 def edits():
     """Every edit by its crate and its name: those that `rt` tries, and those that tests/edits tries."""
     files = glob.glob("crates/*/must-fail/*.edit") + glob.glob("tests/edits/*/*.edit")
-    found = [(re.fullmatch(r"(?:crates|tests/edits)/(\w+)/(?:must-fail/)?(\w+)\.edit", file), file) for file in files]
+    found = [(re.fullmatch(r"(?:crates|tests/edits)/([^/]+)/(?:must-fail/)?([^/]+)\.edit", file), file) for file in files]
     return {match.groups(): file for match, file in sorted(found, key=lambda pair: pair[0].groups())}
 
 
