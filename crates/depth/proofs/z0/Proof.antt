@@ -4,8 +4,5 @@ use borrow.Author.Needs.{needs}
 use Rattle.depth.proofs.z0.Statement.{statement}
 use Rattle.depth.proofs.z0.Tie as tie
 
-returns : tie.Need-returns
-returns c = omega arith
-
 pub z0-spec : {M : Type 1} → statement M
-z0-spec = tie.close (tie.spec (λ c. search needs) returns)
+z0-spec = tie.close (tie.spec (λ c. search needs) (λ c. omega arith))

@@ -17,35 +17,17 @@ abbrev μ-loop : tie.MeasureT-loop
 loop-holds : tie.Need-loop-holds Inv-loop μ-loop
 loop-holds c = (omega arith, places-at-most 19 (c .args .count) (omega arith))
 
-add-places : tie.Need-add-places Inv-loop μ-loop
-add-places c = omega arith
-
-loop-less : tie.Need-loop-less Inv-loop μ-loop
-loop-less c = omega arith
-
 loop-again : tie.Need-loop-again Inv-loop μ-loop
 loop-again c = (omega (arith, places-four-more (c .before .loop .rest) (omega arith)), c .before .loop .inv .1)
-
-add-result : tie.Need-add-result Inv-loop μ-loop
-add-result c = omega arith
 
 returns : tie.Need-returns Inv-loop μ-loop
 returns c = omega (arith, places-one (c .before .before .loop .rest) (omega arith))
 
-add-result-2 : tie.Need-add-result-2 Inv-loop μ-loop
-add-result-2 c = omega arith
-
 returns-2 : tie.Need-returns-2 Inv-loop μ-loop
 returns-2 c = omega (arith, places-two (c .before .before .before .loop .rest) (omega arith) (omega arith))
 
-add-result-3 : tie.Need-add-result-3 Inv-loop μ-loop
-add-result-3 c = omega arith
-
 returns-3 : tie.Need-returns-3 Inv-loop μ-loop
 returns-3 c = omega (arith, places-three (c .before .before .before .before .loop .rest) (omega arith) (omega arith))
-
-add-result-4 : tie.Need-add-result-4 Inv-loop μ-loop
-add-result-4 c = omega arith
 
 returns-4 : tie.Need-returns-4 Inv-loop μ-loop
 returns-4 c = omega (arith, places-four (c .before .before .before .before .loop .rest) (omega arith) (omega arith))
@@ -57,14 +39,14 @@ places-spec =
     Inv-loop
     μ-loop
     loop-holds
-    add-places
-    loop-less
+    (λ c. omega arith)
+    (λ c. omega arith)
     loop-again
-    add-result
+    (λ c. omega arith)
     returns
-    add-result-2
+    (λ c. omega arith)
     returns-2
-    add-result-3
+    (λ c. omega arith)
     returns-3
-    add-result-4
+    (λ c. omega arith)
     returns-4)

@@ -9,33 +9,15 @@ use Rattle.lines.proofs.put_count.Tie as tie
 returns : tie.Need-returns
 returns c = (c .before .before .put-digit .ensures .0, omega arith)
 
-slice-write-buffer-2 : tie.Need-slice-write-buffer-2
-slice-write-buffer-2 c = simp length-set (omega arith)
-
 returns-2 : tie.Need-returns-2
 returns-2 c =
     let a = c .before .before .before .args in
     (two-stand (a .buffer .now) (a .at) (a .count) (c .before .if1 .left) (c .if2 .taken) (omega arith), omega arith)
 
-slice-write-buffer-4 : tie.Need-slice-write-buffer-4
-slice-write-buffer-4 c = simp length-set (omega arith)
-
-slice-write-buffer-5 : tie.Need-slice-write-buffer-5
-slice-write-buffer-5 c = simp length-set (omega arith)
-
 returns-3 : tie.Need-returns-3
 returns-3 c =
     let a = c .before .before .before .before .args in
     (three-stand (a .buffer .now) (a .at) (a .count) (c .before .if2 .left) (c .if3 .taken) (omega arith), omega arith)
-
-slice-write-buffer-7 : tie.Need-slice-write-buffer-7
-slice-write-buffer-7 c = simp length-set (omega arith)
-
-slice-write-buffer-8 : tie.Need-slice-write-buffer-8
-slice-write-buffer-8 c = simp length-set (omega arith)
-
-slice-write-buffer-9 : tie.Need-slice-write-buffer-9
-slice-write-buffer-9 c = simp length-set (omega arith)
 
 returns-4 : tie.Need-returns-4
 returns-4 c =
@@ -55,7 +37,7 @@ put-count-spec =
     (λ c. search needs)
     (λ c. search needs)
     (λ c. search needs)
-    slice-write-buffer-2
+    (λ c. simp length-set (omega arith))
     (λ c. search needs)
     (λ c. search needs)
     returns-2
@@ -66,10 +48,10 @@ put-count-spec =
     (λ c. search needs)
     (λ c. search needs)
     (λ c. search needs)
-    slice-write-buffer-4
+    (λ c. simp length-set (omega arith))
     (λ c. search needs)
     (λ c. search needs)
-    slice-write-buffer-5
+    (λ c. simp length-set (omega arith))
     (λ c. search needs)
     (λ c. search needs)
     returns-3
@@ -80,14 +62,14 @@ put-count-spec =
     (λ c. search needs)
     (λ c. search needs)
     (λ c. search needs)
-    slice-write-buffer-7
+    (λ c. simp length-set (omega arith))
     (λ c. search needs)
     (λ c. search needs)
     (λ c. search needs)
-    slice-write-buffer-8
+    (λ c. simp length-set (omega arith))
     (λ c. search needs)
     (λ c. search needs)
-    slice-write-buffer-9
+    (λ c. simp length-set (omega arith))
     (λ c. search needs)
     (λ c. search needs)
     returns-4

@@ -22,27 +22,6 @@ loop-holds c =
     let a = c .before .args in
     (omega arith, search needs, refl, omega arith, no-words countText (a .t1) (a .buffer .now) (a .at))
 
-slice-write-buffer : tie.Need-slice-write-buffer Inv-loop μ-loop
-slice-write-buffer c = omega arith
-
-mul-put-count : tie.Need-mul-put-count Inv-loop μ-loop
-mul-put-count c = omega arith
-
-array-read-put-count : tie.Need-array-read-put-count Inv-loop μ-loop
-array-read-put-count c = omega arith
-
-add-put-count : tie.Need-add-put-count Inv-loop μ-loop
-add-put-count c = omega arith
-
-put-count-requires : tie.Need-put-count-requires Inv-loop μ-loop
-put-count-requires c κs = simp length-set (omega arith)
-
-add-i : tie.Need-add-i Inv-loop μ-loop
-add-i c = omega arith
-
-loop-less : tie.Need-loop-less Inv-loop μ-loop
-loop-less c = omega arith
-
 loop-again : tie.Need-loop-again Inv-loop μ-loop
 loop-again c =
     let a = c .before .before .before .before .before .before .before .args in
@@ -71,13 +50,13 @@ put-counts-spec =
     Inv-loop
     μ-loop
     loop-holds
-    slice-write-buffer
-    mul-put-count
-    array-read-put-count
-    add-put-count
-    put-count-requires
-    add-i
-    loop-less
+    (λ c. omega arith)
+    (λ c. omega arith)
+    (λ c. omega arith)
+    (λ c. omega arith)
+    (λ c κs. simp length-set (omega arith))
+    (λ c. omega arith)
+    (λ c. omega arith)
     loop-again
     same-length
     returns)

@@ -6,9 +6,6 @@ use borrow.Author.Needs.{needs}
 use Rattle.lines.proofs.put_index_line.Statement.{statement}
 use Rattle.lines.proofs.put_index_line.Tie as tie
 
-same-length : tie.Need-same-length
-same-length c = simp length-set (omega arith)
-
 returns : tie.Need-returns
 returns c =
     let a = c .before .before .before .before .before .before .before .before .before .args in
@@ -25,5 +22,5 @@ put-index-line-spec =
     (λ c κs. search needs)
     (λ c. search needs)
     (λ c. search needs)
-    same-length
+    (λ c. simp length-set (omega arith))
     returns)

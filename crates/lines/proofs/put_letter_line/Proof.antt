@@ -6,9 +6,6 @@ use lib.ListN.{length-set}
 use Rattle.lines.proofs.put_letter_line.Statement.{statement}
 use Rattle.lines.proofs.put_letter_line.Tie as tie
 
-put-counts-requires : tie.Need-put-counts-requires
-put-counts-requires c κs = simp length-set (omega arith)
-
 slice-write-buffer-2 : tie.Need-slice-write-buffer-2
 slice-write-buffer-2 c =
     let a = c .before .before .before .before .before .args in
@@ -33,7 +30,7 @@ put-letter-line-spec =
     (tie.spec
     (λ c. search needs)
     (λ c. search needs)
-    put-counts-requires
+    (λ c κs. simp length-set (omega arith))
     slice-write-buffer-2
     (λ c. search needs)
     same-length

@@ -32,18 +32,6 @@ loop-holds c =
 sub-place : tie.Need-sub-place Inv-loop μ-loop
 sub-place c = omega (arith, places-some (c .before .loop .rest))
 
-add-buffer : tie.Need-add-buffer Inv-loop μ-loop
-add-buffer c = omega arith
-
-cast-buffer : tie.Need-cast-buffer Inv-loop μ-loop
-cast-buffer c = omega arith
-
-slice-write-buffer : tie.Need-slice-write-buffer Inv-loop μ-loop
-slice-write-buffer c = omega arith
-
-loop-less : tie.Need-loop-less Inv-loop μ-loop
-loop-less c = omega arith
-
 loop-again : tie.Need-loop-again Inv-loop μ-loop
 loop-again c =
     let a = c .before .before .before .before .args in
@@ -54,18 +42,6 @@ loop-again c =
       omega arith,
       one-more-stands (a .buffer .now) (a .at) (a .count) (l .buffer) (l .place) (l .rest) (l .inv .4) (omega arith) (omega arith),
     )
-
-add-buffer-2 : tie.Need-add-buffer-2 Inv-loop μ-loop
-add-buffer-2 c = omega arith
-
-cast-buffer-2 : tie.Need-cast-buffer-2 Inv-loop μ-loop
-cast-buffer-2 c = omega arith
-
-slice-write-buffer-2 : tie.Need-slice-write-buffer-2 Inv-loop μ-loop
-slice-write-buffer-2 c = omega arith
-
-same-length : tie.Need-same-length Inv-loop μ-loop
-same-length c = simp length-set (omega arith)
 
 returns : tie.Need-returns Inv-loop μ-loop
 returns c =
@@ -83,13 +59,13 @@ put-long-count-spec =
     add-end
     loop-holds
     sub-place
-    add-buffer
-    cast-buffer
-    slice-write-buffer
-    loop-less
+    (λ c. omega arith)
+    (λ c. omega arith)
+    (λ c. omega arith)
+    (λ c. omega arith)
     loop-again
-    add-buffer-2
-    cast-buffer-2
-    slice-write-buffer-2
-    same-length
+    (λ c. omega arith)
+    (λ c. omega arith)
+    (λ c. omega arith)
+    (λ c. simp length-set (omega arith))
     returns)

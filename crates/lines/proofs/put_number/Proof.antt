@@ -15,9 +15,6 @@ use Rattle.lines.proofs.put_number.Tie as tie
 read-back : (s : tie.Start) → toZ w32 (ofZ w32 (s .args .number)) ≡ s .args .number
 read-back s = toZ-ofZ (s .fits .number)
 
-put-count-requires : tie.Need-put-count-requires
-put-count-requires c κs = simp length-set (omega arith)
-
 same-length : tie.Need-same-length
 same-length c = omega (arith, length-set (c .before .before .before .before .before .before .before .args .buffer .now) (c .before .before .before .before .before .before .before .args .at) 45)
 
@@ -51,7 +48,7 @@ put-number-spec =
     (λ c. search needs)
     (λ c κs. search needs)
     (λ c. search needs)
-    put-count-requires
+    (λ c κs. simp length-set (omega arith))
     same-length
     returns
     (λ c κs. search needs)

@@ -30,27 +30,6 @@ loop-holds c =
     let none : a .from - a .from ≡ 0 = omega arith in
     (omega arith, c .before .pre .0, search needs, refl, omega arith, rw none (no-words numberText (drop (a .from) (a .t1)) (a .buffer .now) (a .at)))
 
-slice-write-buffer : tie.Need-slice-write-buffer Inv-loop μ-loop
-slice-write-buffer c = omega arith
-
-mul-put-number : tie.Need-mul-put-number Inv-loop μ-loop
-mul-put-number c = omega arith
-
-array-copy-out-put-number : tie.Need-array-copy-out-put-number Inv-loop μ-loop
-array-copy-out-put-number c = omega arith
-
-add-put-number : tie.Need-add-put-number Inv-loop μ-loop
-add-put-number c = omega arith
-
-put-number-requires : tie.Need-put-number-requires Inv-loop μ-loop
-put-number-requires c κs = simp length-set (omega arith)
-
-add-i : tie.Need-add-i Inv-loop μ-loop
-add-i c = omega arith
-
-loop-less : tie.Need-loop-less Inv-loop μ-loop
-loop-less c = omega arith
-
 loop-again : tie.Need-loop-again Inv-loop μ-loop
 loop-again c =
     let a = c .before .before .before .before .before .before .before .before .args in
@@ -88,13 +67,13 @@ put-run-spec =
     Inv-loop
     μ-loop
     loop-holds
-    slice-write-buffer
-    mul-put-number
-    array-copy-out-put-number
-    add-put-number
-    put-number-requires
-    add-i
-    loop-less
+    (λ c. omega arith)
+    (λ c. omega arith)
+    (λ c. omega arith)
+    (λ c. omega arith)
+    (λ c κs. simp length-set (omega arith))
+    (λ c. omega arith)
+    (λ c. omega arith)
     loop-again
     same-length
     returns)

@@ -7,15 +7,6 @@ use borrow.Author.Needs.{needs}
 use Rattle.plan.proofs.put_word.Statement.{statement}
 use Rattle.plan.proofs.put_word.Tie as tie
 
-slice-write-place-2 : tie.Need-slice-write-place-2
-slice-write-place-2 c = simp length-set (omega arith)
-
-slice-write-place-3 : tie.Need-slice-write-place-3
-slice-write-place-3 c = simp length-set (omega arith)
-
-slice-write-place-4 : tie.Need-slice-write-place-4
-slice-write-place-4 c = simp length-set (omega arith)
-
 returns : tie.Need-returns
 returns c =
     let i = c .args .at in
@@ -32,12 +23,12 @@ put-word-spec =
     (λ c. search needs)
     (λ c. search needs)
     (λ c. search needs)
-    slice-write-place-2
+    (λ c. simp length-set (omega arith))
     (λ c. search needs)
     (λ c. search needs)
-    slice-write-place-3
+    (λ c. simp length-set (omega arith))
     (λ c. search needs)
     (λ c. search needs)
-    slice-write-place-4
+    (λ c. simp length-set (omega arith))
     (λ c. search needs)
     returns)

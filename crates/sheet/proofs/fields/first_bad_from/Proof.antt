@@ -14,9 +14,6 @@ Inv-loop figures from at₀ at = firstBadFrom figures at ≡ firstBadFrom figure
 abbrev μ-loop : tie.MeasureT-loop
 μ-loop figures from at₀ at = count - at
 
-loop-holds : tie.Need-loop-holds Inv-loop μ-loop
-loop-holds c = refl
-
 returns : tie.Need-returns Inv-loop μ-loop
 unfolding firstBadFrom
 returns c =
@@ -41,7 +38,7 @@ first-bad-from-spec =
     (tie.spec
     Inv-loop
     μ-loop
-    loop-holds
+    (λ c. refl)
     (λ c κs. search needs)
     (λ c. search needs)
     (λ c. search needs)

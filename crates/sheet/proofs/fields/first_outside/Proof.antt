@@ -14,9 +14,6 @@ Inv-loop figures from to i₀ i = firstOutside figures i to ≡ firstOutside fig
 abbrev μ-loop : tie.MeasureT-loop
 μ-loop figures from to i₀ i = to - i
 
-loop-holds : tie.Need-loop-holds Inv-loop μ-loop
-loop-holds c = refl
-
 returns : tie.Need-returns Inv-loop μ-loop
 unfolding firstOutside
 returns c =
@@ -41,7 +38,7 @@ first-outside-spec =
     (tie.spec
     Inv-loop
     μ-loop
-    loop-holds
+    (λ c. refl)
     (λ c κs. search needs)
     (λ c. search needs)
     (λ c. search needs)
