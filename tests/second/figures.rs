@@ -325,7 +325,7 @@ fn worksheet_agrees(figures: &[i64; FIELDS], record: i64) -> bool {
 fn random_sheets(tally: &mut Tally) {
     let mut rng = Random::new(1);
     let (mut valid, mut back, mut agree) = (0, 0, 0);
-    let mut codes = [0; 16];
+    let mut codes = [0; 32];
     let mut columns = [0; 4];
     for _ in 0..RANDOM_SHEETS {
         let figures = random::valid_sheet(&mut rng);

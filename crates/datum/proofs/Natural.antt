@@ -8,6 +8,7 @@ use borrow.Author.Tests.{ltb-true, ltb-false}
 use lib.Dec.{T, ltb}
 use lib.IntN.{ℤ, pos, negsuc, natAbs, _+ℤ_}
 use lib.Signed.{ltZ, nonNeg}
+use Rattle.laws.proofs.Never.{never}
 use Rattle.datum.specs.Datum.{below, orZero, deepest, naturalDepth}
 
 pub held-zero : (z : ℤ) → ltZ z (pos 0) ≡ true → 0 ≡ min deepest (orZero z)
@@ -16,7 +17,7 @@ held-zero (negsuc n) e = refl
 
 pub held-deepest : (z : ℤ) → ltZ (pos deepest) z ≡ true → deepest ≡ min deepest (orZero z)
 held-deepest (pos n) e = let h : deepest < n = ltb-true deepest n e in omega arith
-held-deepest (negsuc n) e = let x : _≡_ {A = ℕ} 0 1 = cc in omega arith
+held-deepest (negsuc n) e = never cc
 
 pub record Between (z : ℤ) : Type 0 where
   pub sign : T (nonNeg z)
@@ -27,7 +28,7 @@ pub between : (z : ℤ) → ltZ z (pos 0) ≡ false → ltZ (pos deepest) z ≡ 
 between (pos n) e f =
     let h : n ≤ deepest = ltb-false deepest n f in
     record { sign = tt; size = h; held = omega arith }
-between (negsuc n) e f = let x : _≡_ {A = ℕ} 0 1 = cc in absurd (omega arith)
+between (negsuc n) e f = never cc
 
 -- a number less k, as ℤ has it
 less : (n k : ℕ) (t : Bool) → ltb n k ≡ t → orZero (cond t (negsuc (k - suc n)) (pos (n - k))) ≡ n - k

@@ -121,8 +121,8 @@ starred = computed
 pub one-interval : (code r s : ℕ) → r ≡ intervalOf code → s ≡ intervalOf code → r ≡ s
 one-interval code = one-answer
 
-pub one-fault-number : (fault : DepthFault) (r s : ℕ) → r ≡ depthFaultNumber fault → s ≡ depthFaultNumber fault → r ≡ s
-one-fault-number fault = one-answer
+pub depth-fault-number-unique : (fault : DepthFault) (r s : ℕ) → r ≡ depthFaultNumber fault → s ≡ depthFaultNumber fault → r ≡ s
+depth-fault-number-unique fault = one-answer
 
 pub one-worksheet : (q : Stretch) (r s : Worksheet) → r ≡ worksheetOf q → s ≡ worksheetOf q → r ≡ s
 one-worksheet q = one-answer

@@ -4,7 +4,7 @@
 use mathlib.Core.Path.{_≡_, refl}
 use mathlib.Core.List.{List, [], _∷_, map}
 use mathlib.Core.Logic.{_↔_, _≢_, _⊎_}
-use Prim.Native.Nat.{ℕ, _≤_}
+use Prim.Native.Nat.{ℕ, _-_, _≤_}
 use native.Mathlib.Omega.{arith}
 use lib.Dec.{T}
 use lib.IntN.{ℤ, pos}
@@ -18,6 +18,7 @@ use Rattle.datum.specs.Datum.{levelOf}
 use Rattle.datum.specs.declared.Level.{Level}
 use Rattle.sheet.specs.Fields.{Bad}
 use Rattle.sheet.specs.Packing.{size, groupsOf, Bytes}
+use Rattle.sheet.specs.Refusals.{readRows}
 use Rattle.sheet.specs.Sheets.{readOf, writtenOf, placeOf}
 use Rattle.sheet.specs.declared.Sheet.{Sheet}
 use Rattle.sheet.specs.declared.SheetRead.the-variants.{Good}
@@ -25,7 +26,7 @@ use Rattle.sheet.specs.declared.ReadFault.the-variants.{BadField}
 use Rattle.sheet.specs.declared.SheetWritten.the-variants.{Done}
 use Rattle.sheet.proofs.Promises.{written-and-read, each-one-writing}
 use Rattle.gauge.specs.Adding.{addition, additionNumber, tableAfter}
-use Rattle.gauge.specs.Designing.{designLevel}
+use Rattle.gauge.specs.Designing.{designLevel, levelRows}
 use Rattle.lanes.specs.Lanes.{laneCount}
 use Rattle.gauge.specs.declared.LevelRead.{LevelRead}
 use Rattle.gauge.specs.declared.LevelRead.the-variants.{Found, NoLevel}
@@ -35,7 +36,7 @@ use Rattle.depth.specs.Depth.{Meets}
 use Rattle.depth.specs.declared.DepthFault.{DepthFault}
 use Rattle.design.specs.Design.{levelFor, designAt, designOf}
 use Rattle.design.specs.Numbers.{reasonNumber, reasonField, codeOf, fieldOf, numberCount, numbersOf}
-use Rattle.design.specs.Refusals.{sheetIn, levelIn, rows}
+use Rattle.design.specs.Refusals.{sheetIn, levelIn, offRecord, rows}
 use Rattle.design.specs.Answers.{stretchOf, FiguresAre}
 use Rattle.design.specs.Harder.{hardenings, NeverEasier}
 use Rattle.design.specs.Starred.{writing, starredSheets, starredNumbers}
@@ -54,7 +55,7 @@ use Rattle.design.proofs.Starred as the-starred
 -- Demand 1
 module _ (bytes table : List ℕ) where
   -- Every string of bytes is read as a sheet or refused by a fixed number: past 1, 2 and 3 it is the sheet of which the later rows speak.
-  pub sheet-is-read : Bytes bytes → NoneBefore (rows bytes table) 4 → readOf bytes ≡ Good (sheetIn bytes)
+  pub sheet-is-read : Bytes bytes → None (readRows bytes) → readOf bytes ≡ Good (sheetIn bytes)
   sheet-is-read = sheet-read bytes table
 
   -- Nothing is left for the caller to check first: any bytes over any table are answered, by 0, or refused by the number of a row.
@@ -70,7 +71,7 @@ module _ (bytes table : List ℕ) where
   nine-never = unlisted-never 9 (omega arith) tt
 
 -- A refused sheet yields its number, the place of a bad field, and zeros.
-pub refused-figures-zero : (r : Reason) → numbersOf (Refused r) ≡ pos (reasonNumber r) ∷ pos (reasonField r) ∷ replicate 11 (pos 0)
+pub refused-figures-zero : (r : Reason) → numbersOf (Refused r) ≡ pos (reasonNumber r) ∷ pos (reasonField r) ∷ replicate (numberCount - 2) (pos 0)
 unfolding numbersOf
 refused-figures-zero r = refl
 
@@ -129,7 +130,7 @@ module _ (bytes table : List ℕ) (small : Bytes bytes) where
   first-bad-field = field-exactly bytes table small
 
 -- Past 4, 5 and 6 the sheet has its level: its own, or the one read off the table.
-pub level-is-had : (bytes table : List ℕ) → NoneBefore (rows bytes table) 7
+pub level-is-had : (bytes table : List ℕ) → None (offRecord (sheetIn bytes .level) (levelRows table))
     → levelFor (sheetIn bytes .level) (designLevel table) ≡ Found (levelIn (sheetIn bytes) table)
 level-is-had = level-read
 
@@ -148,8 +149,8 @@ no-table bytes = refl
 pub all-numbers : (a : Answer) → length (numbersOf a) ≡ numberCount
 all-numbers = the-numbers.counted
 
-pub thirteen : numberCount ≡ 13
-thirteen = refl
+pub how-many : numberCount ≡ 13
+how-many = refl
 
 pub code-and-field-first : (a : Answer) → take 2 (numbersOf a) ≡ pos (codeOf a) ∷ pos (fieldOf a) ∷ []
 code-and-field-first = the-numbers.code-and-field

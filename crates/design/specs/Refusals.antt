@@ -37,6 +37,11 @@ pub record OffRecord (source : LevelSource) (Fault : Type 0) : Type 0 where
   pub off : source ≡ FromRecord
   pub fault : Fault
 
+-- the rows of a level, when it is read off the record
+abbrev pub offRecord : LevelSource → List Row → List Row
+offRecord source [] = []
+offRecord source (row ∷ rows) = (row .number when OffRecord source (row .holds)) ∷ offRecord source rows
+
 -- 7: bend too tight, which is a turn with a radius under the least
 abbrev pub BendTight : Sheet → Type 0
 BendTight s = TightBend (s .turn) (s .radius) (s .length)

@@ -3,45 +3,11 @@ use mathlib.Core.List.{List, [], _∷_}
 use Prim.Native.Nat.{ℕ, _-_}
 use lib.IntN.{ℤ, pos}
 use lib.ListN.{replicate}
-use Rattle.datum.specs.Datum.{belowChart}
+use Rattle.sheet.specs.CaseS.{alteredS}
 use Rattle.sheet.specs.Packing.{bytesOf}
 use Rattle.sheet.specs.Sheets.{figuresOf}
 use Rattle.sheet.specs.declared.Sheet.{Sheet}
-use Rattle.sheet.specs.declared.LevelSource.the-variants.{Given}
 use Rattle.design.specs.Numbers.{numberCount}
-
--- S with its speed, bed, wave allowance z2, silting P, lanes, turn and radius as the case has them
-abbrev alteredS : ℕ → ℕ → ℕ → ℕ → ℕ → ℕ → ℕ → Sheet
-alteredS speed bed allowance silting lanes turn radius =
-    record {
-      deadweight = 40000;
-      draft = 1000;
-      length = 20000;
-      beam = 3000;
-      speed = speed;
-      bed = belowChart (pos bed);
-      soil = 0;
-      allowance = allowance;
-      silting = silting;
-      interval = 3;
-      lanes = lanes;
-      channel = 20000;
-      ships = 2400;
-      water = 0;
-      handling = 0;
-      wind = 20;
-      cross = record { 0 = 10 };
-      along = record { 0 = 10 };
-      wave = 150;
-      aids = 1;
-      bottom = 0;
-      cargo = 0;
-      left = 0;
-      right = 0;
-      turn = turn;
-      radius = radius;
-      level = Given (record { 0 = 500 });
-    }
 
 -- the bytes that a sheet is written in
 abbrev pub writing : Sheet → List ℕ

@@ -1,4 +1,3 @@
-mod Never
 mod table
 mod adding
 mod designing

@@ -3,9 +3,9 @@ use mathlib.Core.Path.{_≡_, refl, sym}
 use mathlib.Core.Bool.{Bool, true, false}
 use mathlib.Core.Logic.{_↔_}
 use Prim.Native.Nat.{ℕ, _*_, _<_, _≤_}
-use native.Mathlib.Omega.{arith}
 use borrow.Author.Tests.{lt-ltb, le-ltb, ltb-true, ne-eqb}
 use lib.Dec.{ltb}
+use Rattle.laws.proofs.Never.{never}
 use Rattle.laws.specs.Choice.{if_then_else_}
 use Rattle.lanes.specs.Lanes.{byTraffic, lanesOf}
 use Rattle.lanes.specs.declared.Lanes.the-variants.{One, Two}
@@ -17,7 +17,7 @@ module _ (channel ships knots : ℕ) where
     where
       go : (b : Bool) → ltb (channel * ships) (4444800 * knots) ≡ b → (if b then One else Two) ≡ One → channel * ships < 4444800 * knots
       go true p e = ltb-true _ _ p
-      go false p e = let x : _≡_ {A = ℕ} 0 1 = cc in absurd (omega arith)
+      go false p e = never cc
 
   pub under-limit : channel * ships < 4444800 * knots → One ≡ byTraffic channel ships knots
   unfolding byTraffic

@@ -4,6 +4,7 @@ use mathlib.Core.Bool.{Bool, true, false}
 use Prim.Native.Nat.{ℕ, _≤_}
 use native.Mathlib.Omega.{arith}
 use borrow.Author.Tests.{ltb-true, leb-true, lt-ltb, le-leb}
+use Rattle.laws.proofs.Never.{never}
 use Rattle.laws.specs.Choice.{if_then_else_, _<ᵇ_, _≤ᵇ_}
 
 -- a test that holds of every smaller figure too: under an end, and to an end
@@ -35,7 +36,7 @@ module _ {A : Type 0} (R : A → A → Type 0) (same : (a : A) → R a a) (trans
       go : (s t : Bool) (x y : ℕ) → (t ≡ true → s ≡ true) → R (f x) (f y) → R (if s then a else f x) (if t then a else f y)
       go true true x y i e = same a
       go true false x y i e = rest .above y
-      go false true x y i e = let z : false ≡ true = i refl in absurd (let n : _≡_ {A = ℕ} 0 1 = cc in omega arith)
+      go false true x y i e = let z : false ≡ true = i refl in never cc
       go false false x y i e = e
 
       over : (t : Bool) (x : ℕ) → R low (if t then a else f x)

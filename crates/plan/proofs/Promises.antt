@@ -12,11 +12,11 @@ use Rattle.plan.specs.Words.{bytesOfNumbers}
 use Rattle.plan.specs.Plan.{needed, planned, planNumber, planPlace, planRows}
 use Rattle.plan.proofs.Planning.{too-small, twelve-exactly, number-exactly, code-where-large, numbers-first, later-stay}
 
--- 12, tested first: a place under 52 bytes.
+-- 12, tested first: a place with fewer bytes than the numbers need.
 pub number-12 : (sheet place : List ℕ) → (planNumber sheet place ≡ 12) ↔ (length place < needed)
 number-12 = twelve-exactly
 
--- A number is given exactly when its row holds and none checked before it does: 12, a place under 52 bytes, and then those of a design.
+-- A number is given exactly when its row holds and none checked before it does: 12, and then those of a design.
 pub number-given : (sheet place : List ℕ) → Bytes sheet → Exactly (planRows sheet place) (planNumber sheet place)
 number-given = number-exactly
 
@@ -28,7 +28,7 @@ nothing-written sheet place h = too-small sheet place h .1
 pub code-returned : (sheet place : List ℕ) → needed ≤ length place → planNumber sheet place ≡ codeOf (planned sheet)
 code-returned = code-where-large
 
--- The first 52 bytes get thirteen signed 32-bit numbers, most significant byte first.
+-- The first bytes get the numbers of the design, signed, 32 bits each, most significant byte first.
 pub numbers-written : (sheet place : List ℕ) → needed ≤ length place → take needed (planPlace sheet place) ≡ bytesOfNumbers (numbersOf (planned sheet))
 numbers-written = numbers-first
 

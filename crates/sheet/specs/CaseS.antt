@@ -6,20 +6,21 @@ use Rattle.datum.specs.Datum.{belowChart}
 use Rattle.sheet.specs.declared.Sheet.{Sheet}
 use Rattle.sheet.specs.declared.LevelSource.the-variants.{Given}
 
-abbrev pub sheetS : Sheet
-sheetS =
+-- S with its speed, bed, wave allowance z2, silting P, lanes, turn and radius as the case has them
+abbrev pub alteredS : ℕ → ℕ → ℕ → ℕ → ℕ → ℕ → ℕ → Sheet
+alteredS speed bed allowance silting lanes turn radius =
     record {
       deadweight = 40000;
       draft = 1000;
       length = 20000;
       beam = 3000;
-      speed = 8;
-      bed = belowChart (pos 500);
+      speed = speed;
+      bed = belowChart (pos bed);
       soil = 0;
-      allowance = 30;
-      silting = 0;
+      allowance = allowance;
+      silting = silting;
       interval = 3;
-      lanes = 1;
+      lanes = lanes;
       channel = 20000;
       ships = 2400;
       water = 0;
@@ -33,10 +34,13 @@ sheetS =
       cargo = 0;
       left = 0;
       right = 0;
-      turn = 0;
-      radius = 0;
+      turn = turn;
+      radius = radius;
       level = Given (record { 0 = 500 });
     }
+
+abbrev pub sheetS : Sheet
+sheetS = alteredS 8 500 30 0 1 0 0
 
 abbrev pub bytesS : List ℕ
 bytesS =

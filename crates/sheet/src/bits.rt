@@ -1,7 +1,7 @@
 // Groups of bits out of bytes, and back into them (definition, section 1.3).
 ghost use mathlib.Core.Path.{_≡_};
 ghost use mathlib.Core.List.{_++_};
-ghost use Prim.Native.Nat.{suc, _+_, _-_, _*_, _/_, _%_, _^_, _<_, _≤_};
+ghost use Prim.Native.Nat.{_+_, _-_, _*_, _/_, _%_, _^_, _<_, _≤_};
 ghost use lib.ListN.{length, drop};
 ghost use Rattle.sheet.specs.Fields.{count, nth};
 ghost use Rattle.sheet.specs.Packing.{groupsOf, figuresIn, bytesOf, Narrow};

@@ -99,5 +99,5 @@ pub bend-unique : (turn radius length knots : ℕ) (lanes : Lanes) (r t : Bend)
     → r ≡ bendOf turn radius length knots lanes → t ≡ bendOf turn radius length knots lanes → r ≡ t
 bend-unique turn radius length knots lanes = one-answer
 
-pub fault-number-unique : (fault : WidthFault) (r t : ℕ) → r ≡ widthFaultNumber fault → t ≡ widthFaultNumber fault → r ≡ t
-fault-number-unique fault = one-answer
+pub width-fault-number-unique : (fault : WidthFault) (r t : ℕ) → r ≡ widthFaultNumber fault → t ≡ widthFaultNumber fault → r ≡ t
+width-fault-number-unique fault = one-answer

@@ -5,6 +5,7 @@ use mathlib.Core.Bool.{Bool, true, false}
 use mathlib.Core.List.{List, [], _∷_}
 use Prim.Native.Nat.{ℕ, zero, suc, _+_, _≤_, _<_, zero-le}
 use native.Mathlib.Omega.{arith}
+use Rattle.laws.proofs.Never.{never}
 use Rattle.laws.specs.Choice.{if_then_else_}
 use Rattle.laws.specs.Extremes.{Least}
 use Rattle.depth.specs.declared.Column.{Column}
@@ -66,7 +67,7 @@ module _ (own : ℕ → Column) (Fit : Column → ℕ → Type 0) (Good : ℕ �
     -- a column that ends the worksheet
     stopped : (c : Column) → Begun c → (f : Finding) → isMove f ≡ false → Tells c (line c) f → Ends (line c) f
     stopped c b Stays e t = (record { holds = t .1; least = λ d g. under c _ d b (t .0) g }, rw (t .2))
-    stopped c b Moves e t = let z : _≡_ {A = ℕ} 0 1 = cc in omega arith
+    stopped c b Moves e t = never cc
     stopped c b (Unusable fault) e t = λ d g. t d (down c (own d) d (b .good-past d g) (fits d g)) g
 
     ended : (c : Column) → Begun c → movesOn (line c) ≡ false → Ends (line c) (findingOf (line c))
@@ -74,9 +75,9 @@ module _ (own : ℕ → Column) (Fit : Column → ℕ → Type 0) (Good : ℕ �
     ended c b e = stopped c b (findingOf (line c)) e (tells c)
 
     moving : (c : Column) (f : Finding) → isMove f ≡ true → Tells c (line c) f → Tells c (line c) Moves
-    moving c Stays e t = let z : _≡_ {A = ℕ} 0 1 = cc in absurd (omega arith)
+    moving c Stays e t = never cc
     moving c Moves e t = t
-    moving c (Unusable fault) e t = let z : _≡_ {A = ℕ} 0 1 = cc in absurd (omega arith)
+    moving c (Unusable fault) e t = never cc
 
     goes-on : (c : Column) → Begun c → movesOn (line c) ≡ true → Begun (line c .«falls_in») × (columnNumber c < columnNumber (line c .«falls_in»))
     unfolding movesOn

@@ -3,7 +3,7 @@ use mathlib.Core.Path.{_≡_, refl, sym, ap, subst, _∙_}
 use mathlib.Core.Bool.{Bool, true, false}
 use mathlib.Core.List.{List, [], _∷_}
 use Prim.Native.Nat.{ℕ, zero, suc}
-use native.Mathlib.Omega.{arith}
+use Rattle.laws.proofs.Never.{never}
 use Rattle.laws.specs.Choice.{if_then_else_}
 use Rattle.depth.specs.declared.Column.{Column}
 use Rattle.depth.specs.declared.Try.{Try}
@@ -35,12 +35,10 @@ module _ (line : Column → Try) where
   one-following c (t ∷ []) (u ∷ []) f g = let e : t ≡ u = f .0 ∙ sym (g .0) in rw e
   one-following c (t ∷ []) (u ∷ (w ∷ m)) f g =
       let e : true ≡ false = sym (g .1) ∙ ap movesOn (g .0 ∙ sym (f .0)) ∙ f .1 in
-      let z : _≡_ {A = ℕ} 0 1 = cc in
-      absurd (omega arith)
+      never cc
   one-following c (t ∷ (v ∷ l)) (u ∷ []) f g =
       let e : true ≡ false = sym (f .1) ∙ ap movesOn (f .0 ∙ sym (g .0)) ∙ g .1 in
-      let z : _≡_ {A = ℕ} 0 1 = cc in
-      absurd (omega arith)
+      never cc
   one-following c (t ∷ (v ∷ l)) (u ∷ (w ∷ m)) f g =
       let e : t ≡ u = f .0 ∙ sym (g .0) in
       let r : v ∷ l ≡ w ∷ m =

@@ -39,11 +39,11 @@ use Rattle.width.proofs.Refusals.{entering, entries-told, bends, bend-told}
 use Rattle.class.specs.Classes.{widthClass}
 use Rattle.design.specs.Design.{widthStretch, figuresOf, byDepth, pastEntries, byEntries, pastBend, byBend, lanesFor, atLevel, byLevel, levelFor, ofSheet, byReading, designAt, designOf}
 use Rattle.design.specs.Numbers.{codeOf}
-use Rattle.design.specs.Refusals.{sheetIn, levelIn, rows}
+use Rattle.design.specs.Refusals.{sheetIn, levelIn, offRecord, rows}
 use Rattle.design.specs.Answers.{stretchOf, wideningIn, FiguresAre, NamesFirst}
 use Rattle.design.specs.declared.Answer.{Answer}
 use Rattle.design.specs.declared.Answer.the-variants.{Answered, Refused}
-use Rattle.design.proofs.rows.Rooms.{levelsFrom, offRecord, level-told}
+use Rattle.design.proofs.rows.Rooms.{levelsFrom, level-told}
 
 -- what is told of a design: an answered one has the figures of its sheet at its level, a refused one names the first bad field
 abbrev pub Right : List ℕ → List ℕ → Answer → Type 0

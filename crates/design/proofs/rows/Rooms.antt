@@ -3,7 +3,7 @@ use mathlib.Core.Path.{_≡_, refl}
 use mathlib.Core.List.{List, [], _∷_}
 use Prim.Native.Nat.{ℕ}
 use Rattle.datum.specs.declared.Level.{Level}
-use Rattle.laws.specs.Rows.{Row, _when_}
+use Rattle.laws.specs.Rows.{Row}
 use Rattle.laws.proofs.Never.{never}
 use Rattle.laws.proofs.Rows.{Told, stop, past, Call}
 use Rattle.sheet.specs.declared.LevelSource.{LevelSource}
@@ -13,16 +13,11 @@ use Rattle.gauge.specs.declared.LevelRead.{LevelRead}
 use Rattle.gauge.specs.declared.LevelRead.the-variants.{Found}
 use Rattle.gauge.proofs.Refusals.{NotFound, levelCall, level-told as table-told}
 use Rattle.design.specs.Design.{levelFor}
-use Rattle.design.specs.Refusals.{levelFrom, OffRecord}
+use Rattle.design.specs.Refusals.{levelFrom, offRecord}
 
 -- 4, 5, 6: the level of a source, over a table
 abbrev pub levelsFrom : LevelSource → List ℕ → Call LevelRead
 levelsFrom source table = record { number = levelNumber; answered = λ r. r ≡ Found (levelFrom source table); refused = NotFound }
-
--- the rows of a level, when it is read off the record
-abbrev pub offRecord : LevelSource → List Row → List Row
-offRecord source [] = []
-offRecord source (row ∷ rows) = (row .number when OffRecord source (row .holds)) ∷ offRecord source rows
 
 off-told : (table : List ℕ) (rows : List Row) (read : LevelRead) → Told (levelCall table) rows read
     → Told (levelsFrom FromRecord table) (offRecord FromRecord rows) read

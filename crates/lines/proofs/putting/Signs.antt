@@ -10,6 +10,7 @@ use lib.Signed.{ltZ}
 use mir.Syntax.{w32}
 use mir.Val.{SFits}
 use lib.ListN.{length, set}
+use Rattle.laws.proofs.Never.{never}
 use Rattle.lines.specs.Decimals.{minus, countText, numberText}
 use Rattle.lines.specs.Lines.{Put}
 use Rattle.lines.proofs.putting.Counting.{count-at-most}
@@ -31,7 +32,7 @@ negative-text (negsuc n) t = refl
 pub plain-text : (z : ℤ) → ltZ z (pos 0) ≡ false → numberText z ≡ countText (natAbs z)
 unfolding numberText
 plain-text (pos n) t = refl
-plain-text (negsuc n) t = let x : _≡_ {A = ℕ} 0 1 = cc in absurd (omega arith)
+plain-text (negsuc n) t = never cc
 
 -- a number put with its sign and without one
 module _ (z : ℤ) (fit : SFits w32 z) (buffer : List ℕ) (at : ℕ) (later : List ℕ) (end : ℕ) where

@@ -6,6 +6,7 @@ use Prim.Native.Nat.{ℕ, suc, _≤_, _<_}
 use native.Mathlib.Omega.{arith}
 use lib.IntN.{ℤ, pos, negsuc}
 use lib.ListN.{getD}
+use Rattle.laws.proofs.Never.{never}
 use Rattle.laws.specs.Each.{Each}
 use Rattle.lines.specs.Decimals.{countText, numberText}
 use Rattle.lines.specs.Lines.{space, newline, letterL, letterR, spaced, lineText, levelsLine, sheetLine, routeLine}
@@ -87,8 +88,8 @@ same-line v w vs ws sv sw svs sws e =
 -- words of the same text come from the same list
 same-sources : {A : Type 0} (text : A → List ℕ) → ((x y : A) → text x ≡ text y → x ≡ y) → (xs ys : List A) → map text xs ≡ map text ys → xs ≡ ys
 same-sources text one [] [] e = refl
-same-sources text one [] (y ∷ ys) e = let z : _≡_ {A = ℕ} 0 1 = cc in absurd (omega arith)
-same-sources text one (x ∷ xs) [] e = let z : _≡_ {A = ℕ} 0 1 = cc in absurd (omega arith)
+same-sources text one [] (y ∷ ys) e = never cc
+same-sources text one (x ∷ xs) [] e = never cc
 same-sources text one (x ∷ xs) (y ∷ ys) e =
     let h : text x ≡ text y = cc in
     let t : map text xs ≡ map text ys = cc in

@@ -1,12 +1,13 @@
 -- A bed and its figure.
 use mathlib.Core.Path.{_≡_, refl, ap}
 use mathlib.Core.Bool.{true, false}
-use Prim.Native.Nat.{ℕ, _≤_, _<_}
+use Prim.Native.Nat.{_≤_, _<_}
 use native.Mathlib.Omega.{arith}
 use borrow.Author.Tests.{ltb-true}
 use lib.Dec.{T}
 use lib.IntN.{ℤ, pos, negsuc, natAbs}
 use lib.Signed.{ltZ, nonNeg}
+use Rattle.laws.proofs.Never.{never}
 use Rattle.datum.specs.Datum.{belowChart}
 use Rattle.datum.specs.declared.BelowChart.{BelowChart}
 use Rattle.sheet.specs.Sheets.{bedFigureOf, bedFigure, noFigure}
@@ -17,7 +18,7 @@ above-chart (negsuc n) e = refl
 
 pub below-has-figure : (z : ℤ) → ltZ z (pos 0) ≡ false → T (nonNeg z) × (natAbs z ≡ bedFigureOf z)
 below-has-figure (pos n) e = (tt, refl)
-below-has-figure (negsuc n) e = let x : _≡_ {A = ℕ} 0 1 = cc in absurd (omega arith)
+below-has-figure (negsuc n) e = never cc
 
 -- a bed that has a figure is the bed of that figure
 pub bed-back : (bed : BelowChart) → bedFigure bed ≤ 3000 → belowChart (pos (bedFigure bed)) ≡ bed

@@ -8,6 +8,7 @@ use native.Mathlib.Omega.{arith}
 use borrow.Author.Tests.{eq-eqb, ne-eqb, eqb-true, eqb-false, not-false}
 use lib.Dec.{eqb}
 use lib.ListN.{length}
+use Rattle.laws.proofs.Never.{never}
 use Rattle.laws.specs.Choice.{if_then_else_}
 use Rattle.laws.specs.Extremes.{Least}
 use Rattle.sheet.specs.Fields.{count, fields, fieldAt, nth, greatest, pairBad, firstBad, Bad}
@@ -85,7 +86,7 @@ made v s e = go (eqb (firstBad v) 0) refl e
   where
     go : (n : Bool) → eqb (firstBad v) 0 ≡ n → (if n then Good (sheetOf v) else NoSheet (BadField (firstBad v))) ≡ Good s → Made v s
     go true r e = record { none = eqb-true _ _ r; sheet = cc }
-    go false r e = let x : _≡_ {A = ℕ} 0 1 = cc in absurd (omega arith)
+    go false r e = never cc
 
 -- and its figures are those
 pub figures-of-made : (v : List ℕ) (s : Sheet) → length v ≡ count → sheetFrom v ≡ Good s → figuresOf s ≡ v
@@ -124,6 +125,6 @@ module _ (v : List ℕ) where
         (λ h. (sheetOf v, refl)),
       ))
       (λ some. (
-        (λ g. let e = g .1 in let x : _≡_ {A = ℕ} 0 1 = cc in absurd (omega arith)),
+        (λ g. let e = g .1 in never cc),
         (λ h. absurd (some (none-bad v .1 h))),
       ))

@@ -9,6 +9,7 @@ use borrow.Author.Tests.{eq-eqb, eqb-true, le-ltb}
 use lib.Dec.{eqb}
 use lib.ListN.{length, take, drop}
 use lib.Seq.{take-at}
+use Rattle.laws.proofs.Never.{never}
 use Rattle.laws.specs.Choice.{if_then_else_}
 use Rattle.sheet.specs.Bits.{cut}
 use Rattle.sheet.specs.Fields.{groups, count, width, nth, firstBad}
@@ -57,8 +58,8 @@ accepted b s e = go (eqb (length b) size) (eqb (nth v count) 0) refl refl e
     go true true p q e =
         let m = made v s e in
         record { long = eqb-true _ _ p; spare = eqb-true _ _ q; none = m .none; sheet = m .sheet }
-    go true false p q e = let x : _≡_ {A = ℕ} 0 1 = cc in absurd (omega arith)
-    go false z p q e = let x : _≡_ {A = ℕ} 0 1 = cc in absurd (omega arith)
+    go true false p q e = never cc
+    go false z p q e = never cc
 
 pub read-valid : (b : List ℕ) (s : Sheet) → readOf b ≡ Good s → Valid s
 read-valid b s e = let a = accepted b s e in rw (← a .sheet) (valid-sheet (groupsOf b) (a .none))

@@ -8,6 +8,7 @@ use native.Mathlib.Omega.{arith}
 use borrow.Author.Tests.{eqb-true, eqb-false}
 use lib.Dec.{eqb}
 use lib.ListN.{length}
+use Rattle.laws.proofs.Never.{never}
 use Rattle.laws.specs.Choice.{if_then_else_}
 use Rattle.laws.specs.Extremes.{Least}
 use Rattle.laws.specs.Rows.{NoneBefore, Exactly}
@@ -128,9 +129,9 @@ module _ (b : List ℕ) (small : Bytes b) where
     where
       go : (s : Sheet) (r : SheetRead) → Why b r → r ≡ Good s
           → (length b ≡ size) × (¬ SpareSet b) × ((k : ℕ) → ¬ Bad (groupsOf b) k)
-      go s r (wrong-length h) e = let x : _≡_ {A = ℕ} 0 1 = cc in absurd (omega arith)
-      go s r (spare-bit l z) e = let x : _≡_ {A = ℕ} 0 1 = cc in absurd (omega arith)
-      go s r (bad-field j l z f n) e = let x : _≡_ {A = ℕ} 0 1 = cc in absurd (omega arith)
+      go s r (wrong-length h) e = never cc
+      go s r (spare-bit l z) e = never cc
+      go s r (bad-field j l z f n) e = never cc
       go s r (good l z f) e = (l, (λ w. spare-set b small .0 w z), none-bad (groupsOf b) .0 f)
 
   -- 28 bytes with no spare bit set are read as the sheet of their figures

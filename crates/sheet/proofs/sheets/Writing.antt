@@ -9,6 +9,7 @@ use borrow.Author.Tests.{eqb-true, eqb-false, ltb-true, ltb-false}
 use lib.Dec.{eqb, ltb}
 use lib.ListN.{length, take, drop, length-append, length-drop}
 use lib.Seq.{drop-at}
+use Rattle.laws.proofs.Never.{never}
 use Rattle.laws.specs.Choice.{if_then_else_}
 use Rattle.laws.specs.Extremes.{Least}
 use Rattle.laws.specs.Rows.{NoneBefore, Exactly}
@@ -111,8 +112,8 @@ module _ (s : Sheet) (place : List ℕ) where
   )
     where
       go : (w : SheetWritten) (o : List ℕ) → Wrote s place w o → w ≡ Done → (size ≤ length place) × ((k : ℕ) → ¬ Bad (figuresOf s) k)
-      go w o (too-small h) e = let x : _≡_ {A = ℕ} 0 1 = cc in absurd (omega arith)
-      go w o (bad-field j l f n) e = let x : _≡_ {A = ℕ} 0 1 = cc in absurd (omega arith)
+      go w o (too-small h) e = never cc
+      go w o (bad-field j l f n) e = never cc
       go w o (done l f) e = (l, none-bad (figuresOf s) .0 f)
 
   -- what is written is read as the same sheet

@@ -1,5 +1,4 @@
 -- `trial::widths::store_items` meets its contract: one item a turn.
--- Assumes nothing.
 use mathlib.Core.Path.{_≡_}
 use Prim.Native.Nat.{_-_, _≤_}
 use lib.ListN.{length}
