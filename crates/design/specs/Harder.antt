@@ -2,10 +2,10 @@
 use mathlib.Core.Path.{_≡_}
 use mathlib.Core.Logic.{_≢_}
 use mathlib.Core.List.{List, [], _∷_}
-use Prim.Native.Nat.{ℕ, _-_, _≤_, _<_}
+use Prim.Native.Nat.{ℕ, _≤_, _<_}
 use lib.IntN.{ℤ, pos}
 use lib.Signed.{_≤ℤ_}
-use Rattle.sheet.specs.Fields.{count, nth}
+use Rattle.sheet.specs.Fields.{count, field}
 use Rattle.sheet.specs.Packing.{groupsOf, Bytes}
 use Rattle.sheet.specs.Sheets.{readOf}
 use Rattle.sheet.specs.declared.SheetRead.the-variants.{Good}
@@ -50,7 +50,7 @@ hardenings =
 
 -- the figure in field number k of a sheet's bytes
 abbrev pub figureIn : List ℕ → ℕ → ℕ
-figureIn bytes k = nth (groupsOf bytes) (k - 1)
+figureIn bytes k = field (groupsOf bytes) k
 
 -- two strings of bytes that are read as sheets, so that every field is in its range; they differ in field k, which is greater in the second,
 -- and come to the same lanes by the lane rule
