@@ -13,14 +13,18 @@ use Rattle.laws.specs.Choice.{_≤ᵇ_}
 use Rattle.laws.proofs.Unique.{one-answer}
 use Rattle.laws.specs.Each.{Each}
 use Rattle.lines.specs.Decimals.{digits, valueOf, Decimal, minus, countText, numberText}
-use Rattle.design.specs.Numbers.{numberCount}
+use Rattle.sheet.specs.CaseS.{sheetS}
+use Rattle.design.specs.Design.{designOf}
+use Rattle.design.specs.Numbers.{numberCount, numbersOf}
+use Rattle.design.specs.Starred.{writing}
+use Rattle.lines.specs.Starred.{lineOfS}
 use Rattle.lines.specs.Lines.{levelsLine, sheetLine, routeLine, lineBytes, placeAfter, bufferAfter}
 use Rattle.lines.proofs.decimals.Meaning.{digits-value, digits-decimal, decimal-only}
 use Rattle.lines.proofs.decimals.Texts.{count-text-one, number-text-one, minus-negative}
 use Rattle.lines.proofs.wholes.OneLine.{sheet-line-one, levels-line-one, route-line-one}
 use Rattle.lines.proofs.wholes.Sizes.{sheet-line-size, levels-line-size, route-line-size}
 use Rattle.lines.proofs.putting.Keeping.{same-place-exactly, buffer-unfit, before-kept, line-stands, after-kept, length-kept, place-within}
-use Rattle.lines.proofs.wholes.Sample.{numbersS, first-line, line-s, last-line}
+use Rattle.lines.proofs.wholes.Sample.{first-line, line-s, last-line}
 
 -- The digits of a number mean it.
 pub digits-mean : (n : ℕ) → valueOf (digits n) ≡ n
@@ -127,14 +131,12 @@ pub route-buffer-unique : (sheets answered class at : ℕ) (buffer now later : L
     → now ≡ later
 route-buffer-unique sheets answered class at buffer = one-answer
 
--- The lines of the definition's sample: L 0 0 0, the line of sheet S, R 1 1 0.
-pub sample-levels : levelsLine 0 0 0 ≡ 76 ∷ 32 ∷ 48 ∷ 32 ∷ 48 ∷ 32 ∷ 48 ∷ 10 ∷ []
-sample-levels = first-line
+-- The lines of the definition's sample: L 0 0 0, the line of S's design over any table, R 1 1 0.
+pub starred-levels : levelsLine 0 0 0 ≡ 76 ∷ 32 ∷ 48 ∷ 32 ∷ 48 ∷ 32 ∷ 48 ∷ 10 ∷ []
+starred-levels = first-line
 
-pub sample-sheet : sheetLine 1 numbersS
-    ≡ 49 ∷ 32 ∷ 48 ∷ 32 ∷ 48 ∷ 32 ∷ 48 ∷ 32 ∷ 49 ∷ 32 ∷ 49 ∷ 49 ∷ 55 ∷ 48 ∷ 32 ∷ 49 ∷ 49 ∷ 55 ∷ 48 ∷ 32 ∷ 49 ∷ 49 ∷ 55 ∷ 48
-    ∷ 32 ∷ 49 ∷ 52 ∷ 52 ∷ 48 ∷ 48 ∷ 32 ∷ 48 ∷ 32 ∷ 50 ∷ 32 ∷ 48 ∷ 32 ∷ 48 ∷ 32 ∷ 49 ∷ 10 ∷ []
-sample-sheet = line-s
+pub starred-sheet : (table : List ℕ) → sheetLine 1 (numbersOf (designOf (writing sheetS) table)) ≡ lineOfS
+starred-sheet = line-s
 
-pub sample-route : routeLine 1 1 0 ≡ 82 ∷ 32 ∷ 49 ∷ 32 ∷ 49 ∷ 32 ∷ 48 ∷ 10 ∷ []
-sample-route = last-line
+pub starred-route : routeLine 1 1 0 ≡ 82 ∷ 32 ∷ 49 ∷ 32 ∷ 49 ∷ 32 ∷ 48 ∷ 10 ∷ []
+starred-route = last-line

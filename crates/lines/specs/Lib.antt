@@ -1,3 +1,4 @@
 -- The lines of the printing program.
 pub mod Decimals
 pub mod Lines
+pub mod Starred
