@@ -1,3 +1,4 @@
 mod Placing
 mod Planning
+mod Reading
 pub mod Promises

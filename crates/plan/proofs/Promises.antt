@@ -1,16 +1,21 @@
 -- What the call from C promises (section 9).
 use mathlib.Core.Path.{_≡_}
-use mathlib.Core.List.{List}
+use mathlib.Core.List.{List, []}
 use mathlib.Core.Logic.{_↔_}
 use Prim.Native.Nat.{ℕ, _≤_, _<_}
-use lib.ListN.{length, take, drop}
+use lib.IntN.{pos}
+use lib.ListN.{length, take, drop, getD}
+use mir.Syntax.{w32}
+use mir.Val.{SFits}
 use Rattle.laws.specs.Rows.{Exactly}
 use Rattle.laws.proofs.Unique.{one-answer}
 use Rattle.sheet.specs.Packing.{Bytes}
-use Rattle.design.specs.Numbers.{codeOf, numbersOf}
-use Rattle.plan.specs.Words.{bytesOfNumbers}
+use Rattle.design.specs.Design.{designOf}
+use Rattle.design.specs.Numbers.{codeOf, numberCount, numbersOf}
+use Rattle.design.proofs.Promises.{no-table}
+use Rattle.plan.specs.Words.{bytesOfNumbers, numberAt}
 use Rattle.plan.specs.Plan.{needed, planned, planNumber, planPlace, planRows}
-use Rattle.plan.proofs.Planning.{too-small, twelve-exactly, number-exactly, code-where-large, numbers-first, later-stay}
+use Rattle.plan.proofs.Planning.{too-small, twelve-exactly, number-exactly, code-where-large, numbers-first, number-in-place, later-stay}
 
 -- 12, tested first: a place with fewer bytes than the numbers need.
 pub number-12 : (sheet place : List ℕ) → (planNumber sheet place ≡ 12) ↔ (length place < needed)
@@ -31,6 +36,15 @@ code-returned = code-where-large
 -- The first bytes get the numbers of the design, signed, 32 bits each, most significant byte first.
 pub numbers-written : (sheet place : List ℕ) → needed ≤ length place → take needed (planPlace sheet place) ≡ bytesOfNumbers (numbersOf (planned sheet))
 numbers-written = numbers-first
+
+-- Number i, read back from its four bytes, most significant first and signed, is the design's number i, where it is one of 32 bits.
+pub number-read-back : (sheet place : List ℕ) → needed ≤ length place → (i : ℕ) → i < numberCount → SFits w32 (getD (numbersOf (planned sheet)) i (pos 0))
+    → numberAt (planPlace sheet place) i ≡ getD (numbersOf (planned sheet)) i (pos 0)
+number-read-back = number-in-place
+
+-- There is no table: the design is that over a table of no slots, so that a level off the record gives 4.
+pub planned-without-table : (sheet : List ℕ) → planned sheet ≡ designOf sheet []
+planned-without-table = no-table
 
 -- Later bytes stay.
 pub later-bytes-stay : (sheet place : List ℕ) → drop needed (planPlace sheet place) ≡ drop needed place
