@@ -7,7 +7,11 @@ use crate::second::random::{self, Random};
 use crate::second::sheet::Sheet;
 use crate::second::width;
 
+/// The mark of no entry in the worksheet's data.
 const NONE: i64 = 9_999;
+
+/// The lines of a worksheet.
+const LINES: usize = 3;
 
 /// Number, cut, sailing depth and columns tried.
 fn by_second(inputs: &Inputs) -> [u32; 4] {
@@ -52,32 +56,64 @@ fn column_number(column: Column) -> i64 {
     }
 }
 
-/// The tries of the second program: it has none for a column without an entry, which the worksheet's data marks.
-fn tries_by_second(inputs: &Inputs) -> Vec<[i64; 6]> {
+/// A line of the worksheet's data: column, z3, s, z4, figure and the column that the figure falls in.
+type Line = [i64; 6];
+
+/// A column without an entry: what stands behind the mark means nothing.
+fn no_entry(column: i64) -> Line {
+    [column, NONE, 0, 0, 0, 0]
+}
+
+/// The second program has no try for a column without an entry: it is the one that the try before fell in.
+fn tries_by_second(inputs: &Inputs) -> (usize, Vec<Line>) {
     let shown = |tried: &depth::Try| {
         let (column, falls_in) = (column_number(tried.column), column_number(tried.falls_in));
         [column, tried.z3, tried.s, tried.z4, tried.figure, falls_in]
     };
-    depth::worksheet(inputs).tries.iter().map(shown).collect()
+    let worksheet = depth::worksheet(inputs);
+    let mut lines: Vec<Line> = worksheet.tries.iter().map(shown).collect();
+    if worksheet.cut == Err(13) {
+        let column = lines.last().map_or(0, |last| last[5]);
+        lines.push(no_entry(column));
+    }
+    let count = lines.len();
+    lines.resize(LINES, [0; 6]);
+    (count, lines)
 }
 
-/// The tries of the worksheet's data, but for one whose column has no entry.
-fn tries_by_proved(handles: &mut Handles, inputs: &Inputs) -> Vec<[i64; 6]> {
-    let mut place = [0; 72];
+/// The count of tries, and all lines of the worksheet's data: those that were not needed are blank.
+fn tries_by_proved(handles: &mut Handles, inputs: &Inputs) -> (usize, Vec<Line>) {
+    let mut place = [0xee; 24 * LINES];
     let count = handles.call(Handle::Worksheet, &figures(inputs), &mut place) as usize;
     let found: Vec<i64> = numbers_of(&place).into_iter().map(i64::from).collect();
-    let lines = found.chunks_exact(6).take(count);
-    let tries = lines.map(|line| [line[0], line[1], line[2], line[3], line[4], line[5]]);
-    tries.filter(|line| line[1] != NONE).collect()
+    let line = |six: &[i64]| match six[1] {
+        NONE => no_entry(six[0]),
+        _ => std::array::from_fn(|k| six[k]),
+    };
+    (count, found.chunks_exact(6).map(line).collect())
 }
 
-fn both(handles: &mut Handles, report: &mut Report, inputs: &Inputs) {
-    let proved = by_proved(handles, inputs);
-    report.case(proved, by_second(inputs), || format!("{inputs:?}"));
-    let proved = tries_by_proved(handles, inputs);
-    report.case(proved, tries_by_second(inputs), || {
-        format!("worksheet of {inputs:?}")
-    });
+/// The serving program, the count, and how often each column was tried that has no entry.
+struct Depths {
+    handles: Handles,
+    report: Report,
+    no_entry: [u64; 3],
+}
+
+impl Depths {
+    fn both(&mut self, inputs: &Inputs) {
+        let proved = by_proved(&mut self.handles, inputs);
+        let report = &mut self.report;
+        report.case(proved, by_second(inputs), || format!("{inputs:?}"));
+        let (count, lines) = tries_by_second(inputs);
+        for line in lines.iter().filter(|line| line[1] == NONE) {
+            self.no_entry[line[0] as usize] += 1;
+        }
+        let proved = tries_by_proved(&mut self.handles, inputs);
+        report.case(proved, (count, lines), || {
+            format!("worksheet of {inputs:?}")
+        });
+    }
 }
 
 fn some_inputs(rng: &mut Random) -> Inputs {
@@ -102,8 +138,11 @@ fn near_columns(inputs: &Inputs, rng: &mut Random) -> Inputs {
 }
 
 pub fn depths() {
-    let mut report = Report::new("depths", 600_000);
-    let mut handles = Handles::start();
+    let mut depths = Depths {
+        handles: Handles::start(),
+        report: Report::new("depths", 600_000),
+        no_entry: [0; 3],
+    };
     let mut rng = Random::new(5);
     // every speed, lanes, soil and interval
     for speed in 2..=12 {
@@ -119,15 +158,20 @@ pub fn depths() {
                             interval,
                             ..inputs
                         };
-                        both(&mut handles, &mut report, &named);
-                        both(&mut handles, &mut report, &near_columns(&named, &mut rng));
+                        depths.both(&named);
+                        depths.both(&near_columns(&named, &mut rng));
                     }
                 }
             }
         }
     }
     for _ in 0..290_000 {
-        both(&mut handles, &mut report, &some_inputs(&mut rng));
+        depths.both(&some_inputs(&mut rng));
     }
-    report.end();
+    let [in_a, in_b, in_c] = depths.no_entry;
+    assert!(
+        in_a == 0 && in_b > 1_000 && in_c > 1_000,
+        "columns without an entry are tried: {in_a} {in_b} {in_c}"
+    );
+    depths.report.end();
 }

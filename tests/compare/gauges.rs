@@ -39,7 +39,7 @@ fn level_both(handles: &mut Handles, report: &mut Report, table: &[u32]) {
 }
 
 /// A table by its slots that are not 0.
-fn shown(table: &[u32]) -> String {
+pub fn shown(table: &[u32]) -> String {
     let counts = table.iter().enumerate().filter(|(_, &count)| count != 0);
     let slots: Vec<String> = counts
         .map(|(k, n)| format!("{}: {n}", k as i32 - 500))
@@ -48,7 +48,7 @@ fn shown(table: &[u32]) -> String {
 }
 
 /// A table with counts at some levels.
-fn table_of(counts: &[(i32, u32)]) -> Vec<u32> {
+pub fn table_of(counts: &[(i32, u32)]) -> Vec<u32> {
     let mut table = gauge::empty();
     for &(level, count) in counts {
         table[(level + 500) as usize] = count;

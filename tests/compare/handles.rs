@@ -17,7 +17,14 @@ pub enum Handle {
     Width,
     Bend,
     MakeSheet,
+    Designs,
 }
+
+/// How many numbers a design has.
+pub const NUMBERS: usize = 13;
+
+/// What a design's call returned, and its numbers.
+pub type Design = (u32, [i64; NUMBERS]);
 
 pub struct Handles {
     _process: Child,
@@ -61,6 +68,27 @@ impl Handles {
             .read_exact(place)
             .expect("the place comes back");
         u32::from_le_bytes(result)
+    }
+
+    /// The designs of sheets over one table, in one request.
+    pub fn designs<S: AsRef<[u8]>>(&mut self, table: &[u32], sheets: &[S]) -> Vec<Design> {
+        let mut input = bytes_of(&[table.len() as u32]);
+        input.extend(bytes_of(table));
+        for sheet in sheets.iter().map(AsRef::as_ref) {
+            input.push(sheet.len() as u8);
+            input.extend(sheet);
+        }
+        let mut place = vec![0xee; 4 * (1 + NUMBERS) * sheets.len()];
+        let done = self.call(Handle::Designs, &input, &mut place);
+        assert_eq!(done as usize, sheets.len(), "every design is done");
+        let design = |words: &[u32]| {
+            let number = |k: usize| i64::from(words[1 + k] as i32);
+            (words[0], std::array::from_fn(number))
+        };
+        numbers_of(&place)
+            .chunks_exact(1 + NUMBERS)
+            .map(design)
+            .collect()
     }
 }
 

@@ -1,18 +1,25 @@
-//! Demand 3, of pairs of sheets that differ in one figure: the one with the greater figure is no easier to design.
+//! Demand 3, of pairs of sheets that differ in one figure: the one with the greater figure is no easier to design, at given
+//! levels and over tables.
 
-use crate::handles::{Handle, Handles};
+use crate::gauges::shown;
+use crate::handles::{Handle, Handles, NUMBERS};
 use crate::parts::in_parts;
 use crate::report::{hex, Report};
 use crate::second::random::{self, Random};
 use crate::second::sheet::{self, BYTES, FIELDS, TABLE};
-use crate::second::width;
+use crate::second::{gauge, width};
 
 const PARTS: u64 = 16;
 const SHEETS: usize = 2_500;
 
+/// The tables of a part that have a level, those that have none, and the sheets over each.
+const TABLES: usize = 40;
+const BAD_TABLES: usize = 4;
+const SHEETS_OVER: usize = 30;
+
 /// The call's place: what it returned, then what it is lent.
 const RETURNED: usize = 4;
-const LENT: usize = 52;
+const LENT: usize = 4 * NUMBERS;
 const PART: usize = RETURNED + 96;
 
 /// Where the thirteen numbers have the cut and the width.
@@ -41,7 +48,7 @@ struct Pair {
 }
 
 /// What a pair showed: both answered with a figure that rose, both with the same, refused for the harder alone, or both.
-#[derive(Default)]
+#[derive(Debug, Default)]
 struct Seen {
     rose: u64,
     stayed: u64,
@@ -49,12 +56,14 @@ struct Seen {
     refused: u64,
 }
 
-fn numbers(part: &[u8]) -> Vec<i32> {
-    let place = &part[RETURNED..RETURNED + LENT];
-    place
-        .chunks_exact(4)
-        .map(|word| i32::from_be_bytes(word.try_into().expect("four bytes")))
-        .collect()
+type Numbers = [i64; NUMBERS];
+
+fn numbers(part: &[u8]) -> Numbers {
+    let number = |k: usize| {
+        let word = &part[RETURNED + 4 * k..RETURNED + 4 * k + 4];
+        i64::from(i32::from_be_bytes(word.try_into().expect("four bytes")))
+    };
+    std::array::from_fn(number)
 }
 
 fn lanes(figures: &[i64; FIELDS]) -> i64 {
@@ -81,71 +90,129 @@ fn raised(rng: &mut Random, figures: &[i64; FIELDS], number: usize, kept: usize)
     })
 }
 
-fn designs(handles: &mut Handles, pairs: &[Pair]) -> Vec<u8> {
+/// The pairs of a sheet, one for each figure that can be greater.
+fn pairs_of(rng: &mut Random, figures: &[i64; FIELDS]) -> Vec<Pair> {
+    let pair = |&(number, kept): &(usize, usize)| raised(rng, figures, number, kept);
+    HARDENINGS.iter().filter_map(pair).collect()
+}
+
+/// The easy sheet and the hard one of each pair in turn.
+fn sheets_of(pairs: &[Pair]) -> Vec<[u8; BYTES]> {
+    pairs
+        .iter()
+        .flat_map(|pair| [pair.easy, pair.hard])
+        .collect()
+}
+
+/// By the call from C, which has no table.
+fn planned(handles: &mut Handles, pairs: &[Pair]) -> Vec<Numbers> {
     let (mut input, mut place) = (Vec::new(), Vec::new());
-    for bytes in pairs.iter().flat_map(|pair| [&pair.easy, &pair.hard]) {
+    for bytes in sheets_of(pairs) {
         input.extend([BYTES as u8, LENT as u8]);
         input.extend(bytes);
         place.extend([0; PART]);
     }
     let done = handles.call(Handle::Plans, &input, &mut place);
     assert_eq!(done as usize, 2 * pairs.len(), "every design is done");
-    place
+    place.chunks_exact(PART).map(numbers).collect()
 }
 
-fn judge(pair: &Pair, easy: &[i32], hard: &[i32], seen: &mut Seen) -> bool {
-    match (easy[0], hard[0]) {
-        (0, 0) if easy[pair.kept] < hard[pair.kept] => seen.rose += 1,
-        (0, 0) if easy[pair.kept] == hard[pair.kept] => seen.stayed += 1,
-        (0, 0) => return false,
-        (_, 0) => return false,
-        (0, _) => seen.lost += 1,
-        _ => seen.refused += 1,
+/// Over one table.
+fn designed(handles: &mut Handles, table: &[u32], pairs: &[Pair]) -> Vec<Numbers> {
+    let designs = handles.designs(table, &sheets_of(pairs));
+    designs.into_iter().map(|(_, numbers)| numbers).collect()
+}
+
+impl Seen {
+    /// Whether the harder sheet is no easier to design.
+    fn judge(&mut self, kept: usize, easy: &Numbers, hard: &Numbers) -> bool {
+        match (easy[0], hard[0]) {
+            (0, 0) if easy[kept] < hard[kept] => self.rose += 1,
+            (0, 0) if easy[kept] == hard[kept] => self.stayed += 1,
+            (0, 0) => return false,
+            (_, 0) => return false,
+            (0, _) => self.lost += 1,
+            _ => self.refused += 1,
+        }
+        true
     }
-    true
+
+    /// Each kind of pair more than a hundred times.
+    fn enough(&self) -> bool {
+        let kinds = [self.rose, self.stayed, self.lost, self.refused];
+        kinds.iter().all(|&pairs| pairs > 100)
+    }
+}
+
+fn judge_all(
+    report: &mut Report,
+    seen: &mut Seen,
+    pairs: &[Pair],
+    designs: &[Numbers],
+    level: impl Fn() -> String,
+) {
+    assert_eq!(designs.len(), 2 * pairs.len(), "two designs a pair");
+    for (pair, designs) in pairs.iter().zip(designs.chunks_exact(2)) {
+        let no_easier = seen.judge(pair.kept, &designs[0], &designs[1]);
+        report.case(no_easier, true, || {
+            let (easy, hard) = (hex(&pair.easy), hex(&pair.hard));
+            format!("sheets {easy} and {hard}, {}: {designs:?}", level())
+        });
+    }
+}
+
+/// Sheets whose level is given, and some whose level is off a record that is not there.
+fn given_levels(handles: &mut Handles, report: &mut Report, rng: &mut Random) {
+    let mut seen = Seen::default();
+    for _ in 0..SHEETS {
+        let figures = random::valid_sheet(rng);
+        let pairs = pairs_of(rng, &figures);
+        let designs = planned(handles, &pairs);
+        judge_all(report, &mut seen, &pairs, &designs, || "no table".into());
+    }
+    assert!(seen.enough(), "each kind of pair is seen: {seen:?}");
+}
+
+/// A table that has a level, or one that has none.
+fn table_with(rng: &mut Random, a_level: bool) -> (Vec<u32>, Result<i32, u32>) {
+    loop {
+        let table = random::table(rng);
+        let record = gauge::design_level(&table);
+        if record.is_ok() == a_level {
+            return (table, record);
+        }
+    }
+}
+
+/// Sheets whose level is off the record.
+fn levels_off_tables(handles: &mut Handles, report: &mut Report, rng: &mut Random) {
+    let mut seen = Seen::default();
+    for number in 0..TABLES + BAD_TABLES {
+        let (table, record) = table_with(rng, number < TABLES);
+        let mut pairs = Vec::new();
+        for _ in 0..SHEETS_OVER {
+            let figures = random::off_record(&random::valid_sheet(rng), record);
+            pairs.extend(pairs_of(rng, &figures));
+        }
+        let designs = designed(handles, &table, &pairs);
+        let answered = designs.iter().any(|numbers| numbers[0] == 0);
+        assert_eq!(answered, record.is_ok(), "answered over a level alone");
+        judge_all(report, &mut seen, &pairs, &designs, || shown(&table));
+    }
+    assert!(seen.enough(), "each kind of pair is seen: {seen:?}");
 }
 
 fn part(seed: u64) -> u64 {
     let mut handles = Handles::start();
     let mut rng = Random::new(900 + seed);
     let mut report = Report::new("harder", 0);
-    let mut seen = Seen::default();
-    for _ in 0..SHEETS {
-        let figures = random::valid_sheet(&mut rng);
-        let pairs: Vec<Pair> = HARDENINGS
-            .iter()
-            .filter_map(|&(number, kept)| raised(&mut rng, &figures, number, kept))
-            .collect();
-        let place = designs(&mut handles, &pairs);
-        for (pair, parts) in pairs.iter().zip(place.chunks_exact(2 * PART)) {
-            let (easy, hard) = (numbers(&parts[..PART]), numbers(&parts[PART..]));
-            let no_easier = judge(pair, &easy, &hard, &mut seen);
-            report.case(no_easier, true, || {
-                format!(
-                    "sheets {} and {}: {easy:?} and {hard:?}",
-                    hex(&pair.easy),
-                    hex(&pair.hard)
-                )
-            });
-        }
-    }
-    let Seen {
-        rose,
-        stayed,
-        lost,
-        refused,
-    } = seen;
-    assert!(
-        [rose, stayed, lost, refused]
-            .iter()
-            .all(|&pairs| pairs > 100),
-        "each kind of pair is seen: {rose} {stayed} {lost} {refused}"
-    );
+    given_levels(&mut handles, &mut report, &mut rng);
+    levels_off_tables(&mut handles, &mut report, &mut rng);
     report.cases()
 }
 
 pub fn harder() {
-    let mut report = Report::new("harder", 300_000);
+    let mut report = Report::new("harder", 550_000);
     report.add(in_parts("harder", PARTS, part));
     report.end();
 }

@@ -5,6 +5,7 @@
 mod second;
 
 mod depths;
+mod designs;
 mod gauges;
 mod handles;
 mod harder;
@@ -29,6 +30,7 @@ fn main() {
         "widths" => widths::widths(),
         "worked-examples" => worked::worked(),
         "plans" => plans::plans(),
+        "designs" => designs::designs(),
         "harder" => harder::harder(),
         "printing" => printing::printing(),
         _ => {

@@ -10,6 +10,7 @@
 typedef uint32_t call(const void *input, size_t count, void *place, size_t room);
 
 extern call trial_read, trial_write, trial_add, trial_level, trial_depth, trial_worksheet, trial_items, trial_width, trial_bend, trial_make;
+extern uint32_t trial_design(const uint8_t *sheet, size_t length, const uint32_t *table, size_t slots, int32_t *place, size_t room);
 
 /* A plan's part of the place: what the call returned, and the bytes that it is lent with bytes behind them. */
 enum { RETURNED = 4, PART = RETURNED + 96 };
@@ -34,6 +35,34 @@ static uint32_t plans(const void *input, size_t count, void *place, size_t room)
     return done;
 }
 
+/* A design's part of the place: what the call returned, and the numbers that it is lent room for. */
+enum { NUMBERS = 13, DESIGN = RETURNED + 4 * NUMBERS };
+
+/* Many designs over one table: the count of its slots, the slots, then each sheet's length with the sheet. Returns how
+   many were done. */
+static uint32_t designs(const void *input, size_t count, void *place, size_t room) {
+    const uint8_t *at = input, *end = at + count;
+    uint8_t *part = place;
+    uint32_t slots, done = 0;
+    if (count < sizeof slots)
+        return 0;
+    memcpy(&slots, at, sizeof slots);
+    at += sizeof slots;
+    if (slots > (size_t)(end - at) / 4)
+        return 0;
+    const void *table = lent(at, slots);
+    at += 4 * (size_t)slots;
+    for (; end - at >= 1 && room >= DESIGN; done++, part += DESIGN, room -= DESIGN) {
+        size_t length = at[0];
+        if (length > (size_t)(end - at) - 1)
+            break;
+        uint32_t code = trial_design(lent(at + 1, length), length, table, slots, (int32_t *)(part + RETURNED), NUMBERS);
+        memcpy(part, &code, RETURNED);
+        at += 1 + length;
+    }
+    return done;
+}
+
 /* A handle, and the bytes of one element of its input and of its place. */
 struct handle {
     call *function;
@@ -52,6 +81,7 @@ static const struct handle handles[] = {
     {trial_width, 4, 4},
     {trial_bend, 4, 4},
     {trial_make, 4, 4},
+    {designs, 1, 1},
 };
 
 static int take(void *to, size_t count) { return fread(to, 1, count, stdin) == count; }

@@ -245,6 +245,18 @@ pub fn valid_sheet(rng: &mut Random) -> [i64; FIELDS] {
     figures
 }
 
+/// The figures with the level off the record. Over a record with a level the bed is moved, so that the natural depth
+/// stays, and the limits that it lies near.
+pub fn off_record(figures: &[i64; FIELDS], record: Result<i32, u32>) -> [i64; FIELDS] {
+    let given = Sheet { figures: *figures }.given_level().unwrap_or(0);
+    let mut moved = *figures;
+    if let Ok(level) = record {
+        moved[5] = within(6, figures[5] + given - i64::from(level));
+    }
+    (moved[26], moved[27]) = (0, 0);
+    moved
+}
+
 /// Packs figures, bad ones too: each figure's lowest bits.
 pub fn pack(figures: &[i64; FIELDS]) -> [u8; BYTES] {
     sheet::pack(figures)
