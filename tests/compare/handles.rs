@@ -18,6 +18,7 @@ pub enum Handle {
     Bend,
     MakeSheet,
     Designs,
+    Classes,
 }
 
 /// How many numbers a design has.

@@ -4,6 +4,10 @@
 #[path = "../second/second.rs"]
 mod second;
 
+#[allow(dead_code)] // what the second program alone is held to
+#[path = "../second/figures.rs"]
+mod figures;
+
 mod depths;
 mod designs;
 mod gauges;
@@ -13,6 +17,7 @@ mod parts;
 mod plans;
 mod printing;
 mod program;
+mod proved;
 mod report;
 mod sheets;
 mod widths;
@@ -31,6 +36,7 @@ fn main() {
         "worked-examples" => worked::worked(),
         "plans" => plans::plans(),
         "designs" => designs::designs(),
+        "figures-proved" => proved::figures(),
         "harder" => harder::harder(),
         "printing" => printing::printing(),
         _ => {

@@ -1,10 +1,11 @@
-//! The definition's figures to hold it to, every refusal number, and its own claims.
+//! The definition's figures to hold a program to, and every refusal number: the second program here, the proved one in the
+//! comparison `figures-proved`. The second program is held to its own claims too.
 
 use crate::second::depth::{self, Inputs};
 use crate::second::design::{design, design_at, plan, Answer};
 use crate::second::gauge::{self, AddAnswer};
 use crate::second::random::{self, Random};
-use crate::second::sheet::{self, Sheet, FIELDS};
+use crate::second::sheet::{self, Refusal, Sheet, FIELDS};
 use crate::second::{class, print, width};
 use std::fmt::Debug;
 
@@ -18,6 +19,73 @@ const S_PRINTED: &str = "L 0 0 0\n1 0 0 0 1 1170 1170 1170 14400 0 2 0 0 1\nR 1 
 
 const RANDOM_SHEETS: usize = 20_000;
 
+/// A program that the figures are asked of.
+pub trait Program {
+    fn design(&self, bytes: &[u8], table: &[u32]) -> Answer;
+    fn plan(&self, bytes: &[u8], place: &mut [u8]) -> u32;
+    fn design_level(&self, table: &[u32]) -> Result<i32, u32>;
+    fn add(&self, table: &mut [u32], reading: i32) -> AddAnswer;
+    fn read(&self, bytes: &[u8]) -> Result<Sheet, Refusal>;
+    /// Writes good figures, with a field set to another figure where one is given.
+    fn write(&self, good: &Figures, set: Option<(usize, i64)>, place: &mut [u8]) -> Written;
+    fn printed(&self, levels: Option<&[u8]>, sheets: &[u8]) -> String;
+    fn ship_class(&self, deadweight: i64) -> i64;
+    fn width_class(&self, width: i64, lanes: i64) -> i64;
+    fn depth_class(&self, s: i64) -> i64;
+}
+
+pub type Figures = [i64; FIELDS];
+pub type Written = Result<(), Refusal>;
+
+struct Second;
+
+impl Program for Second {
+    fn design(&self, bytes: &[u8], table: &[u32]) -> Answer {
+        design(bytes, table)
+    }
+
+    fn plan(&self, bytes: &[u8], place: &mut [u8]) -> u32 {
+        plan(bytes, place)
+    }
+
+    fn design_level(&self, table: &[u32]) -> Result<i32, u32> {
+        gauge::design_level(table)
+    }
+
+    fn add(&self, table: &mut [u32], reading: i32) -> AddAnswer {
+        gauge::add(table, reading)
+    }
+
+    fn read(&self, bytes: &[u8]) -> Result<Sheet, Refusal> {
+        sheet::read(bytes)
+    }
+
+    fn write(&self, good: &Figures, set: Option<(usize, i64)>, place: &mut [u8]) -> Written {
+        let mut figures = *good;
+        if let Some((field, figure)) = set {
+            figures[field - 1] = figure;
+        }
+        sheet::write(&Sheet { figures }, place)
+    }
+
+    fn printed(&self, levels: Option<&[u8]>, sheets: &[u8]) -> String {
+        print::text(levels, sheets)
+    }
+
+    fn ship_class(&self, deadweight: i64) -> i64 {
+        class::ship_class(deadweight)
+    }
+
+    fn width_class(&self, width: i64, lanes: i64) -> i64 {
+        class::width_class(width, lanes)
+    }
+
+    fn depth_class(&self, s: i64) -> i64 {
+        class::depth_class(s)
+    }
+}
+
+#[derive(Default)]
 struct Tally {
     right: u32,
     wrong: u32,
@@ -33,6 +101,12 @@ impl Tally {
             println!("wrong: {what}: {got:?}, not {wanted:?}");
         }
     }
+
+    /// Says how many were right, and whether all were.
+    fn end(&self, name: &str) -> bool {
+        println!("{name}: {} right, {} wrong", self.right, self.wrong);
+        self.wrong == 0
+    }
 }
 
 /// S with some fields changed: (number, figure).
@@ -44,12 +118,12 @@ fn s_with(changes: &[(usize, i64)]) -> [i64; FIELDS] {
     figures
 }
 
-fn answer(changes: &[(usize, i64)]) -> Answer {
-    design(&sheet::pack(&s_with(changes)), &gauge::empty())
+fn answer(program: &impl Program, changes: &[(usize, i64)]) -> Answer {
+    program.design(&sheet::pack(&s_with(changes)), &gauge::empty())
 }
 
-fn code_and_field(bytes: &[u8], table: &[u32]) -> (i64, i64) {
-    let answer = design(bytes, table);
+fn code_and_field(program: &impl Program, bytes: &[u8], table: &[u32]) -> (i64, i64) {
+    let answer = program.design(bytes, table);
     let refused = Answer {
         code: answer.code,
         field: answer.field,
@@ -62,34 +136,32 @@ fn code_and_field(bytes: &[u8], table: &[u32]) -> (i64, i64) {
 fn table_of(counts: &[(i32, u32)]) -> Vec<u32> {
     let mut table = gauge::empty();
     for &(level, count) in counts {
-        for _ in 0..count {
-            assert_eq!(gauge::add(&mut table, level), AddAnswer::Added);
-        }
+        table[(level - gauge::LOWEST) as usize] += count;
     }
     table
 }
 
 /// "S: as printed." to "*999: refusal 7."
-fn starred(tally: &mut Tally) {
+fn starred(program: &impl Program, tally: &mut Tally) {
     let s = sheet::pack(&S);
-    let printed = print::text(None, &s);
+    let printed = program.printed(None, &s);
     tally.check("S, printed", printed.as_str(), S_PRINTED);
-    let two = answer(&[(11, 2)]);
+    let two = answer(program, &[(11, 2)]);
     tally.check("S, two lanes: cut", two.cut, 1_210);
     tally.check("S, two lanes: width", two.width, 30_600);
-    let silted = answer(&[(9, 100)]);
+    let silted = answer(program, &[(9, 100)]);
     tally.check("S, P 100: s", silted.s, 1_170);
     tally.check("S, P 100: cut", silted.cut, 1_237);
-    tally.check("S, bed 0: cut", answer(&[(6, 0)]).cut, 1_180);
-    let one_column = answer(&[(8, 31), (6, 578)]);
+    tally.check("S, bed 0: cut", answer(program, &[(6, 0)]).cut, 1_180);
+    let one_column = answer(program, &[(8, 31), (6, 578)]);
     tally.check("S, z2 31, bed 578: cut", one_column.cut, 1_156);
     tally.check("S, z2 31, bed 578: columns", one_column.columns_tried, 1);
-    let bed_577 = answer(&[(8, 31), (6, 577)]);
+    let bed_577 = answer(program, &[(8, 31), (6, 577)]);
     tally.check("S, z2 31, bed 577: cut", bed_577.cut, 1_171);
-    let fast = |bed| answer(&[(5, 12), (6, bed)]);
+    let fast = |bed| answer(program, &[(5, 12), (6, bed)]);
     tally.check("S, speed 12, bed 610: cut", fast(610).cut, 1_220);
     tally.check("S, speed 12, bed 600: code", fast(600).code, 13);
-    let bend = |radius| answer(&[(25, 30), (26, radius)]);
+    let bend = |radius| answer(program, &[(25, 30), (26, radius)]);
     let widening = |radius| (bend(radius).code, bend(radius).widening);
     tally.check("S, turn 30, radius 1,500", widening(1_500), (0, 1_915));
     tally.check("S, turn 30, radius 2,000", widening(2_000), (0, 0));
@@ -97,26 +169,26 @@ fn starred(tally: &mut Tally) {
 }
 
 /// "S, lanes 0", and the levels of two records.
-fn lanes_and_levels(tally: &mut Tally) {
-    let by_traffic = |ships| answer(&[(11, 0), (13, ships)]).lanes;
+fn lanes_and_levels(program: &impl Program, tally: &mut Tally) {
+    let by_traffic = |ships| answer(program, &[(11, 0), (13, ships)]).lanes;
     tally.check("S, lanes 0, ships 1,777", by_traffic(1_777), 1);
     tally.check("S, lanes 0, ships 1,778", by_traffic(1_778), 2);
-    let equal = answer(&[(11, 0), (12, 44_448), (13, 800)]);
+    let equal = answer(program, &[(11, 0), (12, 44_448), (13, 800)]);
     tally.check("S, lanes 0, 44,448 m, ships 800", equal.lanes, 2);
-    let level = |low, high| gauge::design_level(&table_of(&[(0, low), (60, high)]));
+    let level = |low, high| program.design_level(&table_of(&[(0, low), (60, high)]));
     tally.check("262 of 0, 26,018 of 60", level(262, 26_018), Ok(60));
     tally.check("263 of 0, 26,017 of 60", level(263, 26_017), Ok(0));
     let record = table_of(&[(0, 262), (60, 26_018)]);
     let off_record = sheet::pack(&s_with(&[(27, 0), (28, 0)]));
     let given = sheet::pack(&s_with(&[(28, 560)]));
-    let same = design(&off_record, &record) == design(&given, &[]);
+    let same = program.design(&off_record, &record) == program.design(&given, &[]);
     tally.check("a level off the record is as one given", same, true);
 }
 
 /// Numbers 1, 2, 3.
-fn bad_bytes(tally: &mut Tally) {
+fn bad_bytes(program: &impl Program, tally: &mut Tally) {
     let s = sheet::pack(&S);
-    let code = |bytes: &[u8]| code_and_field(bytes, &gauge::empty());
+    let code = |bytes: &[u8]| code_and_field(program, bytes, &gauge::empty());
     let longer = [&s[..], &[0]].concat();
     let short = (code(&[]), code(&s[..27]), code(&longer));
     tally.check("1: 0, 27, 29 bytes", short, ((1, 0), (1, 0), (1, 0)));
@@ -142,12 +214,12 @@ fn bad_bytes(tally: &mut Tally) {
 }
 
 /// Numbers 4, 5, 6, for source 0 only.
-fn bad_tables(tally: &mut Tally) {
+fn bad_tables(program: &impl Program, tally: &mut Tally) {
     let off_record = sheet::pack(&s_with(&[(27, 0), (28, 0)]));
-    let code = |table: &[u32]| code_and_field(&off_record, table);
+    let code = |table: &[u32]| code_and_field(program, &off_record, table);
     let mut over = gauge::empty();
     over[0] = gauge::FULL + 1;
-    let given = code_and_field(&sheet::pack(&S), &over);
+    let given = code_and_field(program, &sheet::pack(&S), &over);
     tally.check("4: not asked of a given level", given, (0, 0));
     tally.check("4: 2,000 slots", code(&[0; 2_000]), (4, 0));
     tally.check("4: 2,002 slots", code(&[0; 2_002]), (4, 0));
@@ -160,7 +232,7 @@ fn bad_tables(tally: &mut Tally) {
     // Of 30,000 readings, 300 are below 1, 600 below 2, 900 below 3, and 901 below D.
     let level = |d| {
         let low = [(0, 300), (1, 300), (2, 300), (3, 1)];
-        gauge::design_level(&table_of(&[&low[..], &[(d, 29_099)]].concat()))
+        program.design_level(&table_of(&[&low[..], &[(d, 29_099)]].concat()))
     };
     for (row, ends) in [(0, [4, 35]), (1, [36, 70]), (2, [71, 105]), (3, [106, 140])] {
         let what = format!("D {} and {}", ends[0], ends[1]);
@@ -170,10 +242,10 @@ fn bad_tables(tally: &mut Tally) {
 }
 
 /// Numbers 7, 8, 13, 14, 15, and their order.
-fn bad_designs(tally: &mut Tally) {
+fn bad_designs(program: &impl Program, tally: &mut Tally) {
     let code = |changes: &[(usize, i64)]| {
         let bytes = sheet::pack(&s_with(changes));
-        code_and_field(&bytes, &gauge::empty()).0
+        code_and_field(program, &bytes, &gauge::empty()).0
     };
     for (turn, lengths) in [
         (24, 3),
@@ -194,10 +266,10 @@ fn bad_designs(tally: &mut Tally) {
     tally.check("8: cross 16", code(&[(14, 1), (17, 16), (19, 100)]), 8);
     tally.check("8: neither", code(&[(14, 1), (17, 15), (19, 100)]), 0);
     tally.check("13: no entry", code(&[(5, 12), (6, 600)]), 13);
-    let silt = |p| answer(&[(9, p), (10, 5), (6, 670)]);
+    let silt = |p| answer(program, &[(9, p), (10, 5), (6, 670)]);
     let silted = (silt(82).cut, silt(82).code, silt(83).code);
     tally.check("14: z4 over 120", silted, (1_275, 0, 14));
-    let deep = |z2| answer(&[(2, 2_500), (6, 3_000), (7, 3), (8, z2), (5, 9)]);
+    let deep = |z2| answer(program, &[(2, 2_500), (6, 3_000), (7, 3), (8, z2), (5, 9)]);
     let deepest = (deep(230).cut, deep(231).code);
     tally.check("15: over 3,000", deepest, (3_000, 15));
     // column A has too much silt; that the later columns have no entry is not looked at
@@ -211,55 +283,56 @@ fn bad_designs(tally: &mut Tally) {
 }
 
 /// Numbers 4, 10, 11 of adding; a refused addition changes no slot.
-fn adding(tally: &mut Tally) {
+fn adding(program: &impl Program, tally: &mut Tally) {
     let refused = AddAnswer::Refused;
     let mut table = gauge::empty();
     table[500] = gauge::FULL;
     table[501] = gauge::FULL + 1;
     let before = table.clone();
-    tally.check("-9999", gauge::add(&mut table, -9_999), AddAnswer::Missing);
-    tally.check("10: -501", gauge::add(&mut table, -501), refused(10));
-    tally.check("10: 1,501", gauge::add(&mut table, 1_501), refused(10));
-    tally.check("11: at", gauge::add(&mut table, 0), refused(11));
-    tally.check("11: over", gauge::add(&mut table, 1), refused(11));
-    let wrong = gauge::add(&mut [0; 2_000], -9_999);
+    tally.check("-9999", program.add(&mut table, -9_999), AddAnswer::Missing);
+    tally.check("10: -501", program.add(&mut table, -501), refused(10));
+    tally.check("10: 1,501", program.add(&mut table, 1_501), refused(10));
+    tally.check("11: at", program.add(&mut table, 0), refused(11));
+    tally.check("11: over", program.add(&mut table, 1), refused(11));
+    let wrong = program.add(&mut [0; 2_000], -9_999);
     tally.check("4 before -9999", wrong, refused(4));
     tally.check("no slot changed", table == before, true);
-    let ends = (gauge::add(&mut table, -500), gauge::add(&mut table, 1_500));
+    let ends = (
+        program.add(&mut table, -500),
+        program.add(&mut table, 1_500),
+    );
     tally.check("-500, 1,500", ends, (AddAnswer::Added, AddAnswer::Added));
     tally.check("their slots", (table[0], table[2_000]), (1, 1));
 }
 
+fn bad_field(field: u32) -> Refusal {
+    Refusal { number: 3, field }
+}
+
 /// Number 12 of writing and planning.
-fn writing(tally: &mut Tally) {
+fn writing(program: &impl Program, tally: &mut Tally) {
     let s = Sheet { figures: S };
+    let fast = Some((5, 13));
     let mut place = [7; 60];
-    let twelve = sheet::write(&s, &mut place[..27]);
+    let twelve = program.write(&S, None, &mut place[..27]);
     tally.check("12: 27 bytes", twelve, Err(sheet::refusal(12)));
-    let bad = Sheet {
-        figures: s_with(&[(7, -1)]),
-    };
-    let twelve = sheet::write(&bad, &mut place[..27]);
+    let twelve = program.write(&S, fast, &mut place[..27]);
     tally.check("12 before 3", twelve, Err(sheet::refusal(12)));
-    let three = sheet::write(&bad, &mut place);
-    let field_7 = sheet::Refusal {
-        number: 3,
-        field: 7,
-    };
-    tally.check("3: soil -1, written", three, Err(field_7));
+    let three = program.write(&S, fast, &mut place);
+    tally.check("3: speed 13, written", three, Err(bad_field(5)));
     tally.check("no byte changed", place == [7; 60], true);
-    tally.check("S written", sheet::write(&s, &mut place), Ok(()));
+    tally.check("S written", program.write(&S, None, &mut place), Ok(()));
     let (first, later) = place.split_at(28);
-    tally.check("S read back", sheet::read(first), Ok(s));
+    tally.check("S read back", program.read(first), Ok(s));
     tally.check("later bytes stay", later == [7; 32], true);
 }
 
-fn planning(tally: &mut Tally) {
+fn planning(program: &impl Program, tally: &mut Tally) {
     let s = sheet::pack(&S);
     let mut place = [7; 60];
-    tally.check("12: 51 bytes", plan(&s[..3], &mut place[..51]), 12);
+    tally.check("12: 51 bytes", program.plan(&s[..3], &mut place[..51]), 12);
     tally.check("nothing written", place == [7; 60], true);
-    tally.check("S planned", plan(&s, &mut place), 0);
+    tally.check("S planned", program.plan(&s, &mut place), 0);
     let words = place[..52].chunks(4).map(|four| {
         let four = [four[0], four[1], four[2], four[3]];
         i64::from(i32::from_be_bytes(four))
@@ -269,41 +342,49 @@ fn planning(tally: &mut Tally) {
     tally.check("thirteen numbers", numbers, wanted);
     tally.check("later bytes stay", place[52..] == [7; 8], true);
     let off_record = sheet::pack(&s_with(&[(27, 0), (28, 0)]));
-    tally.check("4: no table", plan(&off_record, &mut place), 4);
+    tally.check("4: no table", program.plan(&off_record, &mut place), 4);
     tally.check("its code", place[..8] == [0, 0, 0, 4, 0, 0, 0, 0], true);
-    tally.check("1: planned", plan(&s[..3], &mut place), 1);
+    tally.check("1: planned", program.plan(&s[..3], &mut place), 1);
 }
 
 /// The printing program's other rules.
-fn printing(tally: &mut Tally) {
-    let empty = print::text(None, &[]);
+fn printing(program: &impl Program, tally: &mut Tally) {
+    let empty = program.printed(None, &[]);
     tally.check("no input", empty.as_str(), "L 0 0 0\nR 0 0 5\n");
     let levels = random::levels_bin(&[0, -9_999, 1_501, -500]);
-    let short = print::text(Some(&levels[..7]), &sheet::pack(&S)[..27]);
+    let short = program.printed(Some(&levels[..7]), &sheet::pack(&S)[..27]);
     let wanted = "L 1 1 2\n1 1 0 0 0 0 0 0 0 0 0 0 0 0\nR 1 0 5\n";
     tally.check("odd byte, short sheet", short.as_str(), wanted);
     // The first is refused (13), so only the others' ships count.
     let refused = s_with(&[(1, 600_000), (5, 12), (6, 0)]);
     let route = [refused, s_with(&[(1, 5_000)]), s_with(&[(1, 20_000)])];
     let bytes: Vec<u8> = route.iter().flat_map(sheet::pack).collect();
-    let text = print::text(None, &bytes);
+    let text = program.printed(None, &bytes);
     tally.check("route class", text.lines().last(), Some("R 3 2 1"));
 }
 
 /// Each class limit.
-fn classes(tally: &mut Tally) {
+fn classes(program: &impl Program, tally: &mut Tally) {
     let ship = [40_000, 39_999, 20_000, 19_999, 10_000, 9_999, 5_000, 4_999];
     let steps = [0, 1, 1, 2, 2, 3, 3, 4];
-    tally.check("ship classes", ship.map(class::ship_class), steps);
+    tally.check(
+        "ship classes",
+        ship.map(|ship| program.ship_class(ship)),
+        steps,
+    );
     let depth = [1_400, 1_399, 1_100, 1_099, 900, 899, 800, 799];
-    tally.check("depth classes", depth.map(class::depth_class), steps);
+    tally.check(
+        "depth classes",
+        depth.map(|s| program.depth_class(s)),
+        steps,
+    );
     let one = [11_000, 10_999, 9_000, 8_999, 7_000, 6_999, 5_000, 4_999];
-    let one = one.map(|width| class::width_class(width, 1));
+    let one = one.map(|width| program.width_class(width, 1));
     tally.check("width classes, one lane", one, steps);
     let two = [
         24_000, 23_999, 20_000, 19_999, 16_000, 15_999, 12_000, 11_999,
     ];
-    let two = two.map(|width| class::width_class(width, 2));
+    let two = two.map(|width| program.width_class(width, 2));
     tally.check("width classes, two lanes", two, steps);
 }
 
@@ -349,20 +430,35 @@ fn random_sheets(tally: &mut Tally) {
     tally.check("1, 2, 3 columns met", met, true);
 }
 
-/// Prints a line for each check, and says whether all are right.
+/// A figure that the second program's sheet can hold, and no other's.
+fn below_zero(tally: &mut Tally) {
+    let mut place = [7; 60];
+    let three = Second.write(&S, Some((7, -1)), &mut place);
+    tally.check("3: soil -1, written", three, Err(bad_field(7)));
+    tally.check("no byte changed", place == [7; 60], true);
+}
+
+/// Asks every figure of a program, with a line for each, and says whether all are right.
+pub fn right_in(name: &str, program: &impl Program) -> bool {
+    let mut tally = Tally::default();
+    starred(program, &mut tally);
+    lanes_and_levels(program, &mut tally);
+    bad_bytes(program, &mut tally);
+    bad_tables(program, &mut tally);
+    bad_designs(program, &mut tally);
+    adding(program, &mut tally);
+    writing(program, &mut tally);
+    planning(program, &mut tally);
+    printing(program, &mut tally);
+    classes(program, &mut tally);
+    tally.end(name)
+}
+
+/// Whether the second program has them right, and its own claims.
 pub fn all_right() -> bool {
-    let mut tally = Tally { right: 0, wrong: 0 };
-    starred(&mut tally);
-    lanes_and_levels(&mut tally);
-    bad_bytes(&mut tally);
-    bad_tables(&mut tally);
-    bad_designs(&mut tally);
-    adding(&mut tally);
-    writing(&mut tally);
-    planning(&mut tally);
-    printing(&mut tally);
-    classes(&mut tally);
+    let right = right_in("figures", &Second);
+    let mut tally = Tally::default();
+    below_zero(&mut tally);
     random_sheets(&mut tally);
-    println!("figures: {} right, {} wrong", tally.right, tally.wrong);
-    tally.wrong == 0
+    tally.end("the second program's claims") && right
 }

@@ -121,3 +121,20 @@ pub extern "C" fn trial_bend(figures: &[u32], place: &mut [u32]) -> u32 {
         Bend::TooTight => width::width_fault_number(WidthFault::BendTooTight) as u32,
     }
 }
+
+// Deadweight, width, lanes and sailing depth: the three classes into the place; 0.
+#[no_mangle]
+pub extern "C" fn trial_classes(figures: &[u32], place: &mut [u32]) -> u32 {
+    let lanes = places::lanes_of(places::figure_at(figures, 2));
+    let sailing = BelowLevel(places::short_at(figures, 3));
+    let classes = class::classes_of(
+        places::figure_at(figures, 0),
+        places::figure_at(figures, 1),
+        lanes,
+        sailing,
+    );
+    places::put(&mut *place, 0, classes.ship as u32);
+    places::put(&mut *place, 1, classes.width as u32);
+    places::put(&mut *place, 2, classes.depth as u32);
+    0
+}
