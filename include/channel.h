@@ -15,6 +15,39 @@ extern "C" {
 #define CHANNEL_SHEET 28
 #define CHANNEL_PLACE 52
 
+/* The fields of a sheet, most significant bit first: number, bits, least to greatest, and what it is. Then 12 spare bits,
+ * zero.
+ *   1 20 1-600000   deadweight, t
+ *   2 12 700-2500   draft, cm
+ *   3 16 2000-40000 length, cm
+ *   4 13 500-7000   beam, cm
+ *   5  4 2-12       speed, knots
+ *   6 12 0-3000     natural bed below chart datum, cm
+ *   7  2 0-3        soil grade: 0 mud, 1 deposited soil (silty sand, shells, gravel), 2 dense settled soil (sand, clay,
+ *                   bedrock), 3 (the sources have no words for it)
+ *   8  9 0-300      wave allowance z2, cm, read by hand from the graph
+ *   9 10 0-900      silting P, per mille a year
+ *  10  3 0-5        dredging interval: 0 is 25, 1 33, 2 50, 3 100, 4 200, 5 300 hundredths of a year
+ *  11  2 0-2        lanes: 0 by the traffic, 1 one, 2 two
+ *  12 18 1-200000   channel length, m
+ *  13 15 0-20000    ships a day, hundredths
+ *  14  1 0-1        water: 0 open, 1 sheltered
+ *  15  2 0-2        handling: 0 good, 1 fair, 2 poor
+ *  16  7 0-99       cross wind, knots
+ *  17  6 0-60       cross current, tenths of a knot
+ *  18  6 0-60       along current, tenths of a knot
+ *  19 11 0-1500     wave height, cm
+ *  20  2 0-3        aids to navigation (marks, VTS, AIS): 0 complete, 1 good, 2 middle, 3 poor
+ *  21  2 0-2        bed: 0 soft, 1 hard and smooth, 2 hard and rough
+ *  22  2 0-2        cargo: 0 of low danger, 1 of middle danger (oil), 2 of high danger (LPG, chemicals)
+ *  23  1 0-1        left bank: 0 sloping, 1 steep (a revetment or a solid structure)
+ *  24  1 0-1        right bank: 0 sloping, 1 steep (a revetment or a solid structure)
+ *  25  8 0-180      turn, degrees
+ *  26 15 0-20000    radius, m; 0 exactly where the turn is 0
+ *  27  1 0-1        level source: 0 off the record, 1 given
+ *  28 11 0-2000     given level plus 500, cm; 0 where the level comes off the record
+ */
+
 /* The thirteen numbers, in their order: each a signed 32-bit number, most significant byte first. Lengths are in cm. */
 enum channel_number {
     CHANNEL_CODE,        /* 0, or why the sheet is turned away; then every figure is 0 */
