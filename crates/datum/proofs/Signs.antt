@@ -41,7 +41,7 @@ module _ (w : Width) (held : ℕ) (small : held + 502 < 2 ^ hbits w) where
   level-back = toZ-ofZ level-fits ∙ level-is
 
   -- a number less that level
-  module _ (n : ℕ) (room : n + held + 504 < 2 ^ hbits w) where
+  module _ (n : ℕ) (within : n + held + 504 < 2 ^ hbits w) where
     less-is : toZ w n -ℤ toZ w (ofZ w (toZ w held -ℤ pos 500)) ≡ pos n -ℤ (pos held -ℤ pos 500)
     less-is = ap₂ _-ℤ_ (toZ-pos w (omega arith)) level-back
 
@@ -53,7 +53,7 @@ module _ (w : Width) (held : ℕ) (small : held + 502 < 2 ^ hbits w) where
     less-back = toZ-ofZ less-fits ∙ less-is
 
   -- a signed number, read at the width v and cast, and that level
-  module _ (v : Width) (z : ℤ) (fit : SFits v z) (wider : SFits w z) (room : mag z + held + 504 < 2 ^ hbits w) where
+  module _ (v : Width) (z : ℤ) (fit : SFits v z) (wider : SFits w z) (within : mag z + held + 504 < 2 ^ hbits w) where
     cast-is : toZ v (ofZ v z) ≡ z
     cast-is = toZ-ofZ fit
 

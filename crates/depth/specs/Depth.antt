@@ -19,7 +19,7 @@ use Rattle.depth.specs.Squat.{none, squatOf}
 abbrev pub z0 : Stretch → ℕ
 z0 q = up (q .length) 400
 
--- z1: the room under the keel, 4 hundredths of the draft and one more for each soil grade, rounded up
+-- z1: the clearance under the keel, 4 hundredths of the draft and one more for each soil grade, rounded up
 abbrev pub z1 : Stretch → ℕ
 z1 q = up (q .draft * (4 + q .soil)) 100
 

@@ -180,7 +180,7 @@ fn z0(length: u16) -> u64
     (length as u64 + 399) / 400
 }
 
-// The room under the keel by the soil grade, rounded up.
+// The clearance under the keel by the soil grade, rounded up.
 fn z1(draft: u16, soil: u8) -> u64
     ensures { λ r. ⌜ (r ≡ up (draft * (4 + soil)) 100) × (r < 2 ^ 18) ⌝ }
 {

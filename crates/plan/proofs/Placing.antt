@@ -22,7 +22,7 @@ bytes-length (z ∷ numbers) = omega (arith, bytes-length numbers)
 pub one-more : (numbers : List ℤ) (before place : List ℕ) (i : ℕ) → i < length numbers → 4 * length numbers ≤ length before
     → length place ≡ length before → place ≡ bytesOfNumbers (take i numbers) ++ drop (4 * i) before
     → sets place (4 * i) (wordBytes (ofZ w32 (getD numbers i (pos 0)))) ≡ bytesOfNumbers (take (i + 1) numbers) ++ drop (4 * (i + 1)) before
-one-more numbers before place i h room same e =
+one-more numbers before place i h large same e =
     let z = getD numbers i (pos 0) in
     let done = bytesOfNumbers (take i numbers) in
     let n : length done ≡ 4 * i = bytes-length (take i numbers) ∙ ap (λ (k : ℕ). 4 * k) (length-take-le i numbers (omega arith)) in

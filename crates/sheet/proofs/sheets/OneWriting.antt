@@ -84,7 +84,7 @@ written-read b s small e =
 pub one-writing : (a b : List ℕ) (s : Sheet) → Bytes a → Bytes b → readOf a ≡ Good s → readOf b ≡ Good s → a ≡ b
 one-writing a b s ha hb ea eb = written-read a s ha ea .writing ∙ sym (written-read b s hb eb .writing)
 
--- writing into any place with room, and reading its first 28 bytes
+-- writing into any place that is large enough, and reading its first 28 bytes
 pub read-place : (s : Sheet) (place : List ℕ) → size ≤ length place → Valid s → readOf (take size (placeOf s place)) ≡ Good s
 unfolding Valid placeOf
 read-place s place l e =

@@ -1,4 +1,4 @@
--- `width::width_of` meets its contract: its items are the definition's, and the product of two 16-bit numbers has room for the rounding.
+-- `width::width_of` meets its contract: its items are the definition's, and the product of two 16-bit numbers leaves space for the rounding.
 use Prim.Native.Nat.{_*_, _≤_}
 use native.Mathlib.Nat.{mul-le-mul}
 use native.Mathlib.Omega.{arith}
