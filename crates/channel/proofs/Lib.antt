@@ -1,4 +1,8 @@
 mod Bytes
+mod Blocks
+mod Lines
+mod Cuts
 mod Printing
-mod Joined
-pub mod Promises
+mod Loading
+mod Inputs
+mod Whole

@@ -1,4 +1,6 @@
--- What the printing program's own steps answer.
+-- The text that the printing program prints, and what its own steps answer.
 pub mod Input
+pub mod Output
 pub mod Route
+pub mod Text
 pub mod Printing

@@ -4,7 +4,7 @@ use Rattle.class.specs.Classes.{withShip, routeClass}
 use Rattle.record.specs.Counting.{oneMore}
 use Rattle.design.specs.declared.Answer.{Answer}
 use Rattle.design.specs.declared.Answer.the-variants.{Answered, Refused}
-use Rattle.channel.specs.declared.sheets.Route.{Route}
+use Rattle.channel.specs.declared.route.Route.{Route}
 
 -- the route before its first sheet
 abbrev pub noSheets : Route

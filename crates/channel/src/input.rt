@@ -1,7 +1,12 @@
 // Reading a file or a pipe in blocks: a short read, a slow writer or an interrupted call changes nothing.
-ghost use Prim.Native.Nat.{_-_, _<_, _≤_};
+ghost use mathlib.Core.Path.{_≡_};
+ghost use mathlib.Core.Bool.{true};
+ghost use Prim.Native.Nat.{_-_, _≤_};
 ghost use lib.ListN.{length};
 ghost use Rattle.channel.specs.Input.{GotWithin, Filling};
+
+// As many turns as 64 bits hold, so that each loop ends; no input comes in as many parts.
+pub const TURNS: u64 = 18446744073709551615;
 
 // What one read gave: some bytes, the end, an interruption, or a failure.
 pub enum Got {
@@ -53,7 +58,7 @@ pub fn fill(fd: i32, space: &mut [u8]) -> Filled
     ensures { λ r. ⌜ Filling r (length (now (space .entry))) ⌝ }
 {
     let mut have: usize = 0;
-    let mut turns: u64 = 18446744073709551615;
+    let mut turns = TURNS;
     while have < space.len() {
         if turns == 0 {
             return Filled {
@@ -90,12 +95,4 @@ pub fn fill(fd: i32, space: &mut [u8]) -> Filled
         ended: false,
         failed: false,
     }
-}
-
-// The turns that are left of a loop over blocks: none where there is nothing more.
-pub fn left(turns: u64, more: bool) -> u64
-    requires { ⌜ 0 < turns ⌝ }
-    ensures { λ r. ⌜ r < turns ⌝ }
-{
-    if more { turns - 1 } else { 0 }
 }

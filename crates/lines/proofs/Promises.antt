@@ -1,7 +1,7 @@
 -- What the lines promise, in the definition's words (the printing program). Each proof stands where it is cited.
 use mathlib.Core.Path.{_≡_}
 use mathlib.Core.Bool.{Bool}
-use mathlib.Core.List.{List, [], _∷_, List·Memᴰ}
+use mathlib.Core.List.{List, [], _∷_, _++_, List·Memᴰ}
 use mathlib.Core.Logic.{_↔_}
 use Prim.Native.Nat.{ℕ, _+_, _*_, _^_, _≤_, _<_}
 use lib.IntN.{ℤ, pos}
@@ -23,7 +23,7 @@ use Rattle.lines.proofs.decimals.Meaning.{digits-value, digits-decimal,
 use Rattle.lines.proofs.decimals.Texts.{count-text-one, number-text-one, minus-negative}
 use Rattle.lines.proofs.wholes.OneLine.{sheet-line-one, levels-line-one, route-line-one}
 use Rattle.lines.proofs.wholes.Sizes.{sheet-line-size, levels-line-size, route-line-size}
-use Rattle.lines.proofs.putting.Keeping.{same-place-exactly, buffer-unfit, before-kept, line-stands, after-kept, length-kept, place-within}
+use Rattle.lines.proofs.putting.Keeping.{same-place-exactly, buffer-unfit, before-kept, line-stands, line-behind, none-lost, after-kept, length-kept, place-within}
 use Rattle.lines.proofs.wholes.Sample.{first-line, line-s, last-line}
 
 -- The digits of a number mean it.
@@ -85,6 +85,11 @@ pub line-at-its-place : (line : List ℕ) (at : ℕ) (buffer : List ℕ) → len
     → take (length line) (drop at (bufferAfter line at buffer)) ≡ line
 line-at-its-place = line-stands
 
+-- It stands behind what stood before its place.
+pub line-behind-text : (line : List ℕ) (at : ℕ) (buffer : List ℕ) → at + lineBytes ≤ length buffer
+    → take (placeAfter line at buffer) (bufferAfter line at buffer) ≡ take at buffer ++ line
+line-behind-text = line-behind
+
 -- Every byte before the line and after it stays as it was, and none is added or lost.
 pub before-untouched : (line : List ℕ) (at : ℕ) (buffer : List ℕ) → length line ≤ lineBytes → take at (bufferAfter line at buffer) ≡ take at buffer
 before-untouched = before-kept
@@ -95,6 +100,9 @@ after-untouched = after-kept
 
 pub as-long-as-before : (line : List ℕ) (at : ℕ) (buffer : List ℕ) → length line ≤ lineBytes → length (bufferAfter line at buffer) ≡ length buffer
 as-long-as-before = length-kept
+
+pub no-byte-lost : (line : List ℕ) (at : ℕ) (buffer : List ℕ) → length buffer ≤ length (bufferAfter line at buffer)
+no-byte-lost = none-lost
 
 -- The place after a line lies in the buffer.
 pub next-place-within : (line : List ℕ) (at : ℕ) (buffer : List ℕ) → length line ≤ lineBytes → at ≤ length buffer

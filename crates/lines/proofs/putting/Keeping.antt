@@ -1,7 +1,7 @@
 -- What the putting of a line keeps: the bytes before it and after it, and the whole buffer where no line fits. By the two cases.
 use mathlib.Core.Path.{_≡_, refl}
 use mathlib.Core.Bool.{Bool, true, false}
-use mathlib.Core.List.{List}
+use mathlib.Core.List.{List, _++_}
 use mathlib.Core.Logic.{_↔_}
 use Prim.Native.Nat.{ℕ, _+_, _≤_, _<_}
 use native.Mathlib.Omega.{arith}
@@ -9,7 +9,7 @@ use borrow.Author.Tests.{le-leb, lt-leb, leb-true, leb-false}
 use lib.Dec.{leb}
 use lib.ListN.{length, take, drop}
 use Rattle.lines.specs.Lines.{lineBytes, withText, placeAfter, bufferAfter}
-use Rattle.lines.proofs.putting.Placing.{put-length, before-stays, text-stands, after-stays}
+use Rattle.lines.proofs.putting.Placing.{put-length, head-stands, no-shorter, before-stays, text-stands, after-stays}
 
 module _ (line : List ℕ) (at : ℕ) (buffer : List ℕ) where
   pub place-fitting : at + lineBytes ≤ length buffer → placeAfter line at buffer ≡ at + length line
@@ -42,6 +42,16 @@ module _ (line : List ℕ) (at : ℕ) (buffer : List ℕ) where
     (λ e. either (length buffer < at + lineBytes) (λ h. absurd (omega (arith, place-fitting h))) (λ h. h)),
     place-unfit,
   )
+
+  -- the line stands behind what stood before its place, and no byte is lost
+  pub line-behind : at + lineBytes ≤ length buffer → take (placeAfter line at buffer) (bufferAfter line at buffer) ≡ take at buffer ++ line
+  line-behind h = rw (place-fitting h, buffer-fitting h) (head-stands buffer at line (omega arith))
+
+  pub none-lost : length buffer ≤ length (bufferAfter line at buffer)
+  none-lost =
+      either (length buffer ≤ length (bufferAfter line at buffer))
+      (λ h. rw (buffer-fitting h) (no-shorter buffer at line (omega arith)))
+      (λ h. rw (buffer-unfit h) (omega arith))
 
   module _ (fits : length line ≤ lineBytes) where
     pub before-kept : take at (bufferAfter line at buffer) ≡ take at buffer

@@ -26,19 +26,29 @@ module _ (buffer : List ℕ) (at : ℕ) where
   unfolding withText
   put-none = record { after = sym (add-zero at); holds = rw add-zero (sym (take-append-drop at buffer)) }
 
-  module _ (text : List ℕ) (fits : at + length text ≤ length buffer) where
+  split : (text : List ℕ) → withText at text buffer ≡ (take at buffer ++ text) ++ drop (at + length text) buffer
+  unfolding withText
+  split text = sym (append-assoc (take at buffer) text (drop (at + length text) buffer))
+
+  -- a text at a place of the buffer, however long the text is
+  module _ (text : List ℕ) (within : at ≤ length buffer) where
     head-length : length (take at buffer ++ text) ≡ at + length text
-    head-length = length-append (take at buffer) text ∙ ap (λ (n : ℕ). n + length text) (length-take-le at buffer (omega arith))
+    head-length = length-append (take at buffer) text ∙ ap (λ (n : ℕ). n + length text) (length-take-le at buffer within)
 
-    split : withText at text buffer ≡ (take at buffer ++ text) ++ drop (at + length text) buffer
-    unfolding withText
-    split = sym (append-assoc (take at buffer) text (drop (at + length text) buffer))
+    pub head-stands : take (at + length text) (withText at text buffer) ≡ take at buffer ++ text
+    head-stands = rw (split text) (take-at (take at buffer ++ text) (drop (at + length text) buffer) (at + length text) head-length)
 
+    pub no-shorter : length buffer ≤ length (withText at text buffer)
+    no-shorter =
+        rw (split text, length-append (take at buffer ++ text) (drop (at + length text) buffer))
+        (omega (arith, head-length, length-drop (at + length text) buffer))
+
+  module _ (text : List ℕ) (fits : at + length text ≤ length buffer) where
     pub put-length : length (withText at text buffer) ≡ length buffer
     put-length =
-        rw split
+        rw (split text)
         (length-append (take at buffer ++ text) (drop (at + length text) buffer)
-        ∙ omega (arith, head-length, length-drop (at + length text) buffer))
+        ∙ omega (arith, head-length text (omega arith), length-drop (at + length text) buffer))
 
     -- what stands before the text, the text, and what stands after it
     pub before-stays : take at (withText at text buffer) ≡ take at buffer
@@ -52,10 +62,7 @@ module _ (buffer : List ℕ) (at : ℕ) where
         (take-at text (drop (at + length text) buffer) (length text) refl)
 
     pub after-stays : drop (at + length text) (withText at text buffer) ≡ drop (at + length text) buffer
-    after-stays = rw split (drop-at (take at buffer ++ text) (drop (at + length text) buffer) (at + length text) head-length)
-
-    head-stands : take (at + length text) (withText at text buffer) ≡ take at buffer ++ text
-    head-stands = rw split (take-at (take at buffer ++ text) (drop (at + length text) buffer) (at + length text) head-length)
+    after-stays = rw (split text) (drop-at (take at buffer ++ text) (drop (at + length text) buffer) (at + length text) (head-length text (omega arith)))
 
     -- a text behind the text
     pub text-on : (more : List ℕ) → withText (at + length text) more (withText at text buffer) ≡ withText at (text ++ more) buffer
@@ -68,7 +75,7 @@ module _ (buffer : List ℕ) (at : ℕ) where
         ∙ drop-drop (length more) end buffer
         ∙ ap (λ (k : ℕ). drop k buffer) n in
         parts end more (withText at text buffer)
-        ∙ rw (head-stands, rest) (regroup (take at buffer) text more (drop (at + length (text ++ more)) buffer))
+        ∙ rw (head-stands text (omega arith), rest) (regroup (take at buffer) text more (drop (at + length (text ++ more)) buffer))
         ∙ sym (parts at (text ++ more) buffer)
 
   pub later-length : (text later : List ℕ) (end : ℕ) → at + length text ≤ length buffer → Put buffer at text later end → length later ≡ length buffer

@@ -10,9 +10,9 @@ returns c =
     let numbered = put .before .before in
     let joined = numbered .before in
     let designed = joined .before in
-    let ready = designed .before .before in
-    line-printed _ _ _ _ _ _ _ _ _ _ (ready .made-ready .ensures .0) (ready .made-ready .ensures .1) (designed .design-at .ensures)
-    (joined .with-sheet .ensures) (numbered .numbers .ensures) (put .put-sheet-line .ensures .0) (put .put-sheet-line .ensures .1)
+    let ready = designed .before in
+    line-printed _ _ _ _ _ _ _ _ _ (ready .made-ready .ensures) (designed .design-at .ensures) (joined .with-sheet .ensures)
+    (numbered .numbers .ensures) (put .put-sheet-line .ensures .0) (put .put-sheet-line .ensures .1)
 
 pub print-sheet-spec : {M : Type 1} → statement M
 print-sheet-spec =

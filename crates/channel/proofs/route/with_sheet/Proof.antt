@@ -1,7 +1,7 @@
--- `channel::sheets::with_sheet` meets its contract: an arm for each answer.
+-- `channel::route::with_sheet` meets its contract: an arm for each answer.
 use borrow.Author.Needs.{needs}
-use Rattle.channel.proofs.sheets.with_sheet.Statement.{statement}
-use Rattle.channel.proofs.sheets.with_sheet.Tie as tie
+use Rattle.channel.proofs.route.with_sheet.Statement.{statement}
+use Rattle.channel.proofs.route.with_sheet.Tie as tie
 
 returns : tie.Need-returns
 returns c =
