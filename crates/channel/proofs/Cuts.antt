@@ -6,7 +6,7 @@ use Prim.Native.Nat.{ℕ, zero, suc, _+_, _-_, _*_, _≤_, _<_, min}
 use native.Mathlib.Omega.{arith}
 use borrow.Author.Tests.{leb-true, leb-false}
 use lib.Dec.{leb}
-use lib.ListN.{length, take, drop, length-append, length-drop, length-take, take-append-drop}
+use lib.ListN.{length, take, drop, length-append, length-drop, take-append-drop}
 use lib.Seq.{take-append-le, drop-append-le, take-all, drop-drop}
 use Rattle.laws.specs.Rounding.{up}
 use Rattle.channel.specs.Text.{firstSheets, sheetsOf}
@@ -66,3 +66,23 @@ in-two (suc m) first second e =
     next-sheet (first ++ second) (omega (arith, length-append first second))
     ∙ ap₂ _∷_ (take-append-le 28 first second (omega arith)) (ap sheetsOf (drop-append-le 28 first second (omega arith)) ∙ in-two m (drop 28 first) second (omega (arith, length-drop 28 first)))
     ∙ sym (ap (λ (sheets : List (List ℕ)). sheets ++ sheetsOf second) (next-sheet first (omega arith)))
+
+-- the sheets are the input cut, as many as 28 bytes go into it, rounded up
+joined-first : (n : ℕ) (input : List ℕ) → length input ≤ 28 * n → flatten (firstSheets n input) ≡ input
+unfolding firstSheets flatten
+joined-first zero input h = sym (empty input (omega arith))
+joined-first (suc n) input h =
+    ap (λ (rest : List ℕ). take 28 input ++ rest) (joined-first n (drop 28 input) (omega (arith, length-drop 28 input))) ∙ take-append-drop 28 input
+
+pub joined : (input : List ℕ) → flatten (sheetsOf input) ≡ input
+unfolding sheetsOf
+joined input = joined-first (up (length input) 28) input (omega arith)
+
+first-many : (n : ℕ) (input : List ℕ) → length (firstSheets n input) ≡ n
+unfolding firstSheets
+first-many zero input = refl
+first-many (suc n) input = ap suc (first-many n (drop 28 input))
+
+pub how-many : (input : List ℕ) → length (sheetsOf input) ≡ up (length input) 28
+unfolding sheetsOf
+how-many input = first-many (up (length input) 28) input

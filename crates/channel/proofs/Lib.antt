@@ -1,8 +1,10 @@
 mod Bytes
 mod Blocks
+mod Loading
 mod Lines
 mod Cuts
 mod Printing
-mod Loading
 mod Inputs
 mod Whole
+mod Routes
+pub mod Promises

@@ -1,22 +1,20 @@
 -- The whole text: the lines that were put are those of the record, the sheets and the route, so what was written and what stands is the text.
-use mathlib.Core.Path.{_≡_, refl, sym, ap, _∙_}
+use mathlib.Core.Path.{_≡_, sym, ap, _∙_}
 use mathlib.Core.Bool.{true}
 use mathlib.Core.List.{List, [], _∷_, _++_}
 use Prim.Native.Nat.{ℕ, _≤_}
 use borrow.Author.Tests.{le-leb}
-use lib.ListN.{length, take}
+use lib.ListN.{length}
 use Rattle.gauge.specs.Table.{emptyTable}
 use Rattle.gauge.specs.Designing.{designLevel}
 use Rattle.gauge.specs.declared.LevelRead.{LevelRead}
 use Rattle.record.specs.declared.Counts.{Counts}
 use Rattle.lines.specs.Lines.{lineBytes, placeAfter, bufferAfter}
 use Rattle.channel.specs.Input.{ToItsEnd}
-use Rattle.channel.specs.Output.{placeFor, Lines, standing, withLine, withLines, written}
+use Rattle.channel.specs.Output.{Lines, standing, withLine, withLines, written}
 use Rattle.channel.specs.Route.{noSheets}
 use Rattle.channel.specs.Text.{sheetsOf, levelOf, countsOf, routeAfter, sheetLines, levelsLineOf, routeLineOf, linesOf, printed}
 use Rattle.channel.specs.Printing.{fileBlock, inputBlock, FileAdded, Progress, progress, atFirst, sheetsPrinted, InputPrinted, RoutePrinted, TextOf}
-use Rattle.channel.specs.declared.Text.{Text}
-use Rattle.channel.specs.declared.route.Route.{Route}
 use Rattle.channel.specs.declared.sheets.State.{State}
 use Rattle.channel.proofs.Blocks.{brought}
 use Rattle.channel.proofs.Lines.{place-kept, line-put, all-lines, lines-in-two}

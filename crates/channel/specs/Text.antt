@@ -1,7 +1,8 @@
 -- The text that is printed (section 10): a line for the record, one for each sheet, and one for the route.
-use Prim.Native.Nat.{ℕ, zero, suc}
-use mathlib.Core.List.{List, [], _∷_, _++_, flatten}
+use Prim.Native.Nat.{ℕ, zero, suc, _+_}
+use mathlib.Core.List.{List, [], _∷_, _++_, map, flatten}
 use lib.ListN.{length, take, drop}
+use Rattle.laws.specs.Choice.{if_then_else_, _=ᵇ_}
 use Rattle.laws.specs.Rounding.{up}
 use Rattle.gauge.specs.Table.{emptyTable}
 use Rattle.gauge.specs.Designing.{designLevel}
@@ -9,9 +10,10 @@ use Rattle.gauge.specs.declared.LevelRead.{LevelRead}
 use Rattle.record.specs.Blocks.{noTally, tableAfterBlock, tallyAfterBlock, tallyAtEnd}
 use Rattle.record.specs.declared.Counts.{Counts}
 use Rattle.design.specs.Design.{designAt}
-use Rattle.design.specs.Numbers.{numbersOf}
+use Rattle.design.specs.Numbers.{codeOf, numbersOf}
+use Rattle.design.specs.declared.Answer.{Answer}
 use Rattle.lines.specs.Lines.{levelsLine, sheetLine, routeLine}
-use Rattle.channel.specs.Route.{noSheets, withSheet}
+use Rattle.channel.specs.Route.{noSheets, withSheet, shipsOf}
 use Rattle.channel.specs.declared.route.Route.{Route}
 
 -- the first n sheets of the input, 28 bytes each
@@ -45,6 +47,18 @@ module _ (level : LevelRead) where
   sheetLines route (sheet ∷ sheets) =
       sheetLine (withSheet route (designAt sheet level) .sheets) (numbersOf (designAt sheet level))
       ∷ sheetLines (withSheet route (designAt sheet level)) sheets
+
+  -- the designs of sheets, and the ship classes of those that are answered
+  abbrev pub designsOf : List (List ℕ) → List Answer
+  designsOf sheets = map (λ (sheet : List ℕ). designAt sheet level) sheets
+
+  abbrev pub shipsOfAll : List (List ℕ) → List ℕ
+  shipsOfAll sheets = flatten (map shipsOf (designsOf sheets))
+
+  -- how many have code 0
+  unfoldable pub howManyAnswered : List (List ℕ) → ℕ
+  howManyAnswered [] = 0
+  howManyAnswered (sheet ∷ sheets) = (if codeOf (designAt sheet level) =ᵇ 0 then 1 else 0) + howManyAnswered sheets
 
 -- L with the counts, and R with the route
 abbrev pub levelsLineOf : Counts → List ℕ

@@ -1,8 +1,7 @@
 // Reading a file or a pipe in blocks: a short read, a slow writer or an interrupted call changes nothing.
 ghost use mathlib.Core.Path.{_≡_};
-ghost use mathlib.Core.Bool.{true};
 ghost use Prim.Native.Nat.{_-_, _≤_};
-ghost use lib.ListN.{length};
+ghost use lib.ListN.{length, take};
 ghost use Rattle.channel.specs.Input.{GotWithin, Filling};
 
 // As many turns as 64 bits hold, so that each loop ends; no input comes in as many parts.
@@ -36,10 +35,11 @@ fn got_of(answer: isize, most: usize) -> Got
     Got::Bytes(count)
 }
 
-// One read into what is left of a space.
+// One read into what is left of a space; what it has stays.
 fn read_some(fd: i32, space: &mut [u8], have: usize) -> Got
     requires { ⌜ have ≤ length (now space) ⌝ }
     ensures { λ r. ⌜ GotWithin r (length (now (space .entry)) - have) ⌝ }
+    ensures { λ r. ⌜ take have (now (space .exit)) ≡ take have (now (space .entry)) ⌝ }
 {
     let most = space.len() - have;
     let answer = libc::read(fd, &mut space[have..]);

@@ -46,7 +46,7 @@ use Rattle.design.specs.declared.Reason.the-variants.{NoSheet, NoDepth}
 use Rattle.design.specs.declared.Answer.{Answer}
 use Rattle.design.specs.declared.Answer.the-variants.{Answered, Refused}
 use Rattle.design.proofs.answers.Numbers as the-numbers
-use Rattle.design.proofs.rows.Readings.{sheet-read, level-read}
+use Rattle.design.proofs.rows.Readings.{sheet-read, level-read, other-length}
 use Rattle.design.proofs.answers.Figures.{figures-only}
 use Rattle.design.proofs.rows.Exactly.{design-exactly, field-exactly, figures-exactly, no-depth-only as no-depth-said}
 use Rattle.design.proofs.harder.Never.{deepens, broadens}
@@ -128,6 +128,14 @@ module _ (bytes table : List ℕ) (small : Bytes bytes) where
   -- 3: the first bad field's number is given.
   pub first-bad-field : (k : ℕ) → (designOf bytes table ≡ Refused (NoSheet (BadField k))) ↔ (Least (Bad (groupsOf bytes)) k × NoneBefore (rows bytes table) 3)
   first-bad-field = field-exactly bytes table small
+
+-- 1, whatever the level: not 28 bytes.
+pub other-length-one : (bytes : List ℕ) (read : LevelRead) → length bytes ≢ size → codeOf (designAt bytes read) ≡ 1
+other-length-one = other-length
+
+-- 0 exactly when the design is answered.
+pub zero-when-answered : (a : Answer) → (codeOf a ≡ 0) ↔ ((f : Figures) × (a ≡ Answered f))
+zero-when-answered = the-numbers.zero-exactly
 
 -- Past 4, 5 and 6 the sheet has its level: its own, or the one read off the table.
 pub level-is-had : (bytes table : List ℕ) → None (offRecord (sheetIn bytes .level) (levelRows table))

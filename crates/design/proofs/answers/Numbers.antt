@@ -1,7 +1,7 @@
 -- The numbers of an answer begin with the code and the field, which name one reason; the figures after them are 0 when refused. By cases of the reason.
-use mathlib.Core.Path.{_≡_, refl, sym, ap₂, _∙_}
+use mathlib.Core.Path.{_≡_, refl, sym, ap, ap₂, _∙_}
 use mathlib.Core.List.{List, [], _∷_}
-use mathlib.Core.Logic.{_⊎_, inl, inr, _≢_}
+use mathlib.Core.Logic.{_⊎_, inl, inr, _↔_, _≢_}
 use Prim.Native.Nat.{ℕ, _≤_}
 use native.Mathlib.Omega.{arith}
 use lib.Dec.{T}
@@ -16,6 +16,7 @@ use Rattle.width.specs.declared.WidthFault.the-variants.{BendTooTight, NoWidthE
 use Rattle.depth.specs.declared.DepthFault.the-variants.{NoSquatEntry, SiltOver, CutOver}
 use Rattle.design.specs.Numbers.{reasonNumber, reasonField, codeOf, fieldOf, numberCount, numbersOf}
 use Rattle.design.specs.Refusals.{rows}
+use Rattle.design.specs.declared.Figures.{Figures}
 use Rattle.design.specs.declared.Reason.{Reason}
 use Rattle.design.specs.declared.Reason.the-variants.{NoSheet, NoLevel, NoWidth, NoDepth}
 use Rattle.design.specs.declared.Answer.{Answer}
@@ -54,6 +55,15 @@ module _ (bytes table : List ℕ) where
   pub code-never : (a : Answer) (number : ℕ) → 1 ≤ number → T (absent number (rows bytes table)) → codeOf a ≢ number
   code-never (Answered f) number some none e = omega arith
   code-never (Refused r) number some none e = present-other (reasonNumber r) number (rows bytes table) (reason-present bytes table r) none e
+
+-- the code is 0 exactly when the design is answered
+refused-some : (r : Reason) → reasonNumber r ≢ 0
+unfolding rows
+refused-some r e = present-other (reasonNumber r) 0 (rows [] []) (reason-present [] [] r) tt e
+
+pub zero-exactly : (a : Answer) → (codeOf a ≡ 0) ↔ ((f : Figures) × (a ≡ Answered f))
+zero-exactly (Answered f) = ((λ e. (f, refl)), (λ e. refl))
+zero-exactly (Refused r) = ((λ e. absurd (refused-some r e)), (λ answered. ap codeOf (answered .1)))
 
 -- the field is 0 unless the number is 3
 field-zero : (r : Reason) → reasonNumber r ≢ 3 → reasonField r ≡ 0

@@ -21,12 +21,12 @@ returns c = record { within = omega arith; full = λ e. absurd (true≢false e);
 add-have : tie.Need-add-have Inv-loop μ-loop
 add-have c =
     let read = c .before .before .before .before .before .read-some in
-    omega (arith, bytes-within (read .result) (c .before .got .given .0 .0) _ (read .ensures) (c .before .got .given .1))
+    omega (arith, bytes-within (read .result) (c .before .got .given .0 .0) _ (read .ensures .0) (c .before .got .given .1))
 
 loop-again : tie.Need-loop-again Inv-loop μ-loop
 loop-again c =
     let read = c .before .before .before .before .before .read-some in
-    omega (arith, bytes-within (read .result) (c .before .got .given .0 .0) _ (read .ensures) (c .before .got .given .1))
+    omega (arith, bytes-within (read .result) (c .before .got .given .0 .0) _ (read .ensures .0) (c .before .got .given .1))
 
 returns-2 : tie.Need-returns-2 Inv-loop μ-loop
 returns-2 c = record { within = omega arith; full = λ e. absurd (true≢false e); over = λ e. refl }

@@ -1,0 +1,77 @@
+-- What the printing program promises (section 10). `TextPrinted` of specs/Printing.antt is what `print` ensures, and `main` writes the rest that it
+-- leaves; `printed` of specs/Text.antt is the text.
+use mathlib.Core.Path.{_≡_, ap, _∙_}
+use mathlib.Core.Bool.{true}
+use mathlib.Core.List.{List, [], _∷_, _++_, flatten}
+use mathlib.Core.Logic.{_≢_}
+use Prim.Native.Nat.{ℕ, _*_, _≤_, _<_, min}
+use native.Mathlib.Nat.{zero-add}
+use native.Mathlib.Omega.{arith}
+use lib.ListN.{length, take, drop}
+use Rattle.laws.specs.Rounding.{up}
+use Rattle.class.specs.Classes.{routeClass}
+use Rattle.gauge.specs.declared.LevelRead.{LevelRead}
+use Rattle.record.specs.Counting.{greatest}
+use Rattle.lines.specs.Lines.{lineBytes}
+use Rattle.design.specs.Design.{designAt}
+use Rattle.design.specs.Numbers.{codeOf}
+use Rattle.design.proofs.Promises.{other-length-one}
+use Rattle.channel.specs.Input.{Input, inputOf, Came}
+use Rattle.channel.specs.Output.{Lines, standing, withLines, written}
+use Rattle.channel.specs.Route.{noSheets}
+use Rattle.channel.specs.Text.{sheetsOf, routeAfter, shipsOfAll, howManyAnswered, linesOf, printed}
+use Rattle.channel.specs.Printing.{fileBlock, inputBlock, TextPrinted}
+use Rattle.channel.specs.declared.Text.{Text}
+use Rattle.channel.proofs.Lines.{all-lines}
+use Rattle.channel.proofs.Cuts.{next-sheet, no-sheet, in-two, joined, how-many}
+use Rattle.channel.proofs.Routes as the-route
+
+-- Whatever blocks the record and the sheets came in, the text is that of the record and the sheets: where the program came to its end, there are
+-- the blocks that it read, each to its end, and what was written, with the rest in the buffer, is what is printed of their bytes.
+pub text-is-printed : (buffer later : List ℕ) (text : Text) → TextPrinted buffer text later → text .whole ≡ true
+    → (file : Input) × Came fileBlock file × ((input : Input) × Came inputBlock input
+    × (written (linesOf (inputOf file) (inputOf input)) (record { at = 0; buffer = buffer }) ++ take (text .rest) later ≡ printed (inputOf file) (inputOf input)))
+text-is-printed buffer later text ensured = ensured
+
+-- Lines are written in their order, each once, cut into writes anywhere: what was written and what stands in the buffer are what stood there and the lines.
+pub lines-in-order : (lines : List (List ℕ)) (l : Lines) → lineBytes ≤ length (l .buffer)
+    → written lines l ++ standing (withLines lines l) ≡ standing l ++ flatten lines
+lines-in-order = all-lines
+
+-- The sheets are the input, cut
+pub sheets-are-the-input : (input : List ℕ) → flatten (sheetsOf input) ≡ input
+sheets-are-the-input = joined
+
+-- into the first 28 bytes and then the sheets behind them,
+pub first-sheet-first : (input : List ℕ) → 0 < length input → sheetsOf input ≡ take 28 input ∷ sheetsOf (drop 28 input)
+first-sheet-first = next-sheet
+
+pub none-left : (input : List ℕ) → length input ≡ 0 → sheetsOf input ≡ []
+none-left = no-sheet
+
+-- so that there are as many as 28 bytes go into it, a short last one counted.
+pub short-last-counted : (input : List ℕ) → length (sheetsOf input) ≡ up (length input) 28
+short-last-counted = how-many
+
+-- How the input is cut into blocks of whole sheets changes nothing.
+pub cut-changes-nothing : (sheets : ℕ) (first second : List ℕ) → length first ≡ 28 * sheets → sheetsOf (first ++ second) ≡ sheetsOf first ++ sheetsOf second
+cut-changes-nothing = in-two
+
+-- The route after sheets
+module _ (level : LevelRead) where
+  -- A sheet of another length gets 1.
+  pub short-gets-one : (sheet : List ℕ) → length sheet ≢ 28 → codeOf (designAt sheet level) ≡ 1
+  short-gets-one sheet = other-length-one sheet level
+
+  module _ (sheets : List (List ℕ)) where
+    -- R: how many sheets there are, as far as 64 bits hold,
+    pub route-sheets : routeAfter level noSheets sheets .sheets ≡ min greatest (length sheets)
+    route-sheets = the-route.sheets-counted level sheets noSheets (omega arith) ∙ ap (min greatest) (zero-add (length sheets))
+
+    -- how many have code 0,
+    pub route-answered : routeAfter level noSheets sheets .answered ≡ min greatest (howManyAnswered level sheets)
+    route-answered = the-route.answered-counted level sheets noSheets (omega arith) ∙ ap (min greatest) (zero-add (howManyAnswered level sheets))
+
+    -- and the smallest ship class of those.
+    pub route-class : routeAfter level noSheets sheets .class ≡ routeClass (shipsOfAll level sheets)
+    route-class = the-route.smallest-class level sheets noSheets
