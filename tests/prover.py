@@ -79,7 +79,7 @@ def run(words, tree, limit, **environment):
 # ---- the prover's words
 
 # Where a step of a proof no longer fits the code: it is no fact that fails first there.
-STEP_LOST = re.compile("no occurrence of the path|has no `Need-")
+STEP_LOST = re.compile("no occurrence of the path|has no `Need-|has no field")
 
 
 def first_error(output, crate):

@@ -1,6 +1,6 @@
 -- The sheets of an input: no block yet, and a block more. By the laws of blocks, and of sheets in two parts.
 use mathlib.Core.Path.{_≡_, refl, sym, ap, _∙_}
-use mathlib.Core.Bool.{Bool, true, false, true≢false}
+use mathlib.Core.Bool.{Bool, false}
 use mathlib.Core.List.{List, [], _++_}
 use Prim.Native.Nat.{ℕ, _*_}
 use native.Mathlib.Omega.{arith}
@@ -16,19 +16,6 @@ use Rattle.channel.specs.declared.sheets.Turn.{Turn}
 use Rattle.channel.proofs.Blocks.{none-yet, block-more}
 use Rattle.channel.proofs.Cuts.{no-sheet, in-two}
 use Rattle.channel.proofs.Printing.{printed-in-two, none-printed, printed-all}
-
--- what the two flags of a turn say: the input goes on, or it ended and no read failed
-more-goes-on : (ended whole more : Bool) → more ≡ (if ended then false else whole) → more ≡ true → ended ≡ false
-more-goes-on true whole more m e = absurd (true≢false (sym e ∙ m))
-more-goes-on false whole more m e = refl
-
-whole-unfailed : (failed taken whole : Bool) → whole ≡ (if failed then false else taken) → whole ≡ true → failed ≡ false
-whole-unfailed true taken whole w e = absurd (true≢false (sym e ∙ w))
-whole-unfailed false taken whole w e = refl
-
-whole-ended : (ended whole more : Bool) → more ≡ (if ended then false else whole) → more ≡ false → whole ≡ true → ended ≡ true
-whole-ended true whole more m e w = refl
-whole-ended false whole more m e w = absurd (true≢false (sym w ∙ sym m ∙ e))
 
 module _ (level : LevelRead) (p : Progress) where
   begun : SoFar inputBlock (InputPrinted level p p)
@@ -52,8 +39,7 @@ module _ (level : LevelRead) (p : Progress) where
         → Reading inputBlock (InputPrinted level p (progress (turn .state) buffer)) more whole
     printed-on taken whole more as-long so-far w m =
         block-more inputBlock (InputPrinted level p q) (InputPrinted level p (progress (turn .state) buffer)) (turn .filled) space (block .filling) as-long
-        block-behind more whole so-far (more-goes-on (turn .filled .ended) whole more m)
-        (λ over all. (whole-ended (turn .filled .ended) whole more m over all, whole-unfailed (turn .filled .failed) taken whole w all))
+        block-behind taken whole more so-far w m
 
 pub begun-at : (level : LevelRead) (route : Route) (at : ℕ) (buffer : List ℕ) → route ≡ noSheets
     → SoFar inputBlock (InputPrinted level (atFirst at buffer) (record { route = route; lines = record { at = at; buffer = buffer } }))

@@ -1,7 +1,9 @@
 // Reading a file or a pipe in blocks: a short read, a slow writer or an interrupted call changes nothing.
 ghost use mathlib.Core.Path.{_≡_};
+ghost use mathlib.Core.Bool.{false};
 ghost use Prim.Native.Nat.{_-_, _≤_};
 ghost use lib.ListN.{length, take};
+ghost use Rattle.laws.specs.Choice.{if_then_else_};
 ghost use Rattle.channel.specs.Input.{GotWithin, Filling};
 
 // As many turns as 64 bits hold, so that each loop ends; no input comes in as many parts.
@@ -95,4 +97,24 @@ pub fn fill(fd: i32, space: &mut [u8]) -> Filled
         ended: false,
         failed: false,
     }
+}
+
+// Whether no read failed, and what was filled could be taken further.
+pub fn is_whole(filled: Filled, taken: bool) -> bool
+    ensures { λ r. ⌜ r ≡ (if filled .failed then false else taken) ⌝ }
+{
+    if filled.failed {
+        return false;
+    }
+    taken
+}
+
+// Whether there is more to read.
+pub fn goes_on(filled: Filled, whole: bool) -> bool
+    ensures { λ r. ⌜ r ≡ (if filled .ended then false else whole) ⌝ }
+{
+    if filled.ended {
+        return false;
+    }
+    whole
 }

@@ -1,10 +1,7 @@
 // Sheets from standard input, each with its line.
 ghost use mathlib.Core.Path.{_≡_};
 ghost use Prim.Native.Nat.{_+_, _-_, _<_, min};
-ghost use lib.ListN.{length};
-ghost use mathlib.Core.Bool.{false};
 ghost use mathlib.Core.List.{[], _∷_};
-ghost use Rattle.laws.specs.Choice.{if_then_else_};
 ghost use Rattle.channel.specs.Text.{sheetsOf};
 ghost use Rattle.channel.specs.Printing.{progress, sheetsPrinted, printedCount, BlockPrinted, AllPrinted, RoutePrinted};
 use crate::input;
@@ -101,26 +98,6 @@ fn print_some(level: LevelRead, space: &mut [u8], buffer: &mut [u8], state: Stat
     }
 }
 
-// Whether no read failed and the output still takes its lines.
-fn is_whole(filled: Filled, taken: bool) -> bool
-    ensures { λ r. ⌜ r ≡ (if filled .failed then false else taken) ⌝ }
-{
-    if filled.failed {
-        return false;
-    }
-    taken
-}
-
-// Whether there is more to read, and to be printed.
-fn goes_on(filled: Filled, whole: bool) -> bool
-    ensures { λ r. ⌜ r ≡ (if filled .ended then false else whole) ⌝ }
-{
-    if filled.ended {
-        return false;
-    }
-    whole
-}
-
 // The state after the last sheet, and whether the input was read to its end and the output takes it.
 pub struct Sheets {
     pub state: State,
@@ -153,8 +130,8 @@ pub fn print_all(level: LevelRead, buffer: &mut [u8], at: usize) -> Sheets
         let filled = turn.filled;
         let out = after.out;
         state = after;
-        whole = is_whole(filled, out.open);
-        more = goes_on(filled, whole);
+        whole = input::is_whole(filled, out.open);
+        more = input::goes_on(filled, whole);
     }
     Sheets { state, whole }
 }
