@@ -1,6 +1,6 @@
 -- The whole text: the lines that were put are those of the record, the sheets and the route, so what was written and what stands is the text.
 use mathlib.Core.Path.{_≡_, sym, ap, _∙_}
-use mathlib.Core.Bool.{true}
+use mathlib.Core.Bool.{Bool}
 use mathlib.Core.List.{List, [], _∷_, _++_}
 use Prim.Native.Nat.{ℕ, _≤_}
 use borrow.Author.Tests.{le-leb}
@@ -45,7 +45,7 @@ module _ (buffer : List ℕ) (space : lineBytes ≤ length buffer) where
   levels-put counts at later =
       line-put (levelsLineOf counts) (record { at = 0; buffer = buffer }) 0 at later (place-kept buffer 0 (le-leb lineBytes (length buffer) space))
 
-  module _ (table : List ℕ) (counts : Counts) (level : LevelRead) (at : ℕ) (after : List ℕ) (state : State) (printed-after : List ℕ) (rest : ℕ) (later : List ℕ)
+  module _ (table : List ℕ) (counts : Counts) (level : LevelRead) (at : ℕ) (after : List ℕ) (state : State) (printed-after : List ℕ) (rest : ℕ) (taken : Bool) (later : List ℕ)
       (l : level ≡ designLevel table) (a : at ≡ placeAfter (levelsLineOf counts) 0 buffer) (b : after ≡ bufferAfter (levelsLineOf counts) 0 buffer)
       (r : RoutePrinted state printed-after rest later) where
     put-in-turn : (file input : List ℕ) → FileAdded emptyTable counts table file → InputPrinted level (atFirst at after) (progress state printed-after) input
@@ -58,9 +58,9 @@ module _ (buffer : List ℕ) (space : lineBytes ≤ length buffer) where
         ∙ ap (routed (levelOf file) input) (levels-put counts at after a b ∙ ap (λ (counted : Counts). withLine (levelsLineOf counted) (record { at = 0; buffer = buffer })) (f .counted))
 
     pub text-whole : ToItsEnd fileBlock (FileAdded emptyTable counts table) → ToItsEnd inputBlock (InputPrinted level (atFirst at after) (progress state printed-after))
-        → ToItsEnd fileBlock (λ (file : List ℕ). ToItsEnd inputBlock (TextOf buffer (record { rest = rest; whole = true }) later file))
+        → ToItsEnd fileBlock (λ (file : List ℕ). ToItsEnd inputBlock (TextOf buffer (record { rest = rest; whole = taken }) later file))
     text-whole read came =
-        brought fileBlock (FileAdded emptyTable counts table) (λ (file : List ℕ). ToItsEnd inputBlock (TextOf buffer (record { rest = rest; whole = true }) later file))
-        (λ file f. brought inputBlock (InputPrinted level (atFirst at after) (progress state printed-after)) (TextOf buffer (record { rest = rest; whole = true }) later file)
+        brought fileBlock (FileAdded emptyTable counts table) (λ (file : List ℕ). ToItsEnd inputBlock (TextOf buffer (record { rest = rest; whole = taken }) later file))
+        (λ file f. brought inputBlock (InputPrinted level (atFirst at after) (progress state printed-after)) (TextOf buffer (record { rest = rest; whole = taken }) later file)
         (λ input i. in-order buffer file input space (record { at = rest; buffer = later }) (put-in-turn file input f i)) came)
         read

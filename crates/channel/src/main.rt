@@ -21,7 +21,9 @@ struct Text {
 fn main() {
     let mut buffer = io::large_buffer();
     let text = print(&mut buffer);
-    output::put_out(&buffer, text.rest);
+    if text.whole {
+        output::put_out(&buffer, text.rest);
+    }
 }
 
 // The text: the record's line, the sheets' lines and the route's, written as the buffer fills but for its rest.
@@ -42,9 +44,10 @@ fn print(buffer: &mut [u8]) -> Text
         sheets::print_cut(buffer, printed.state);
         return nothing_more();
     }
+    let last = sheets::print_route(buffer, printed.state);
     Text {
-        rest: sheets::print_route(buffer, printed.state),
-        whole: true,
+        rest: last.at,
+        whole: last.open,
     }
 }
 

@@ -136,14 +136,18 @@ pub fn print_all(level: LevelRead, buffer: &mut [u8], at: usize) -> Sheets
     Sheets { state, whole }
 }
 
-// The route's line, and the place behind it.
-pub fn print_route(buffer: &mut [u8], state: State) -> usize
-    ensures { λ r. ⌜ RoutePrinted state (now (buffer .entry)) r (now (buffer .exit)) ⌝ }
+// The route's line behind those of the sheets.
+pub fn print_route(buffer: &mut [u8], state: State) -> Out
+    ensures { λ r. ⌜ RoutePrinted state (now (buffer .entry)) (r .at) (now (buffer .exit)) ⌝ }
 {
     let route = state.route;
     let out = state.out;
     let ready = output::made_ready(buffer, out);
-    lines::put_route_line(route.sheets, route.answered, route.class, buffer, ready.at)
+    let after = lines::put_route_line(route.sheets, route.answered, route.class, buffer, ready.at);
+    Out {
+        at: after,
+        open: ready.open,
+    }
 }
 
 // Where the input failed, the lines so far are written, and then that is told. A closed output is left quietly.

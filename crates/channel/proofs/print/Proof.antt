@@ -28,7 +28,7 @@ returns-3 c =
     let start = load .before .before .before in
     λ w. text-whole (now (start .args .buffer)) (start .pre) (load .load .last .0) (load .load .result .counts) (designed .design-level .result)
     (put .put-levels-line .result) (put .put-levels-line .last .1 .1 .1 .0) (printed .print-all .result .state) (printed .print-all .last .1 .0)
-    (routed .print-route .result) (routed .print-route .last .0) (designed .design-level .ensures) (put .put-levels-line .ensures .0)
+    (routed .print-route .result .at) (routed .print-route .result .«open») (routed .print-route .last .0) (designed .design-level .ensures) (put .put-levels-line .ensures .0)
     (put .put-levels-line .ensures .1) (routed .print-route .ensures) (load .load .ensures (not-false _ (loaded .if1 .left)))
     (printed .print-all .ensures (not-false _ (whole .if2 .left)))
 
