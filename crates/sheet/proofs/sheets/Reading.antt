@@ -3,7 +3,7 @@ use mathlib.Core.Path.{_≡_, refl, ap, sym, _∙_}
 use mathlib.Core.Bool.{Bool, true, false}
 use mathlib.Core.List.{List}
 use mathlib.Core.Logic.{_↔_, _≢_}
-use Prim.Native.Nat.{ℕ}
+use Prim.Native.Nat.{ℕ, _≤_, zero-le}
 use native.Mathlib.Omega.{arith}
 use borrow.Author.Tests.{eqb-true, eqb-false}
 use lib.Dec.{eqb}
@@ -13,8 +13,9 @@ use Rattle.laws.specs.Choice.{if_then_else_}
 use Rattle.laws.specs.Extremes.{Least}
 use Rattle.laws.specs.Rows.{NoneBefore, Exactly}
 use Rattle.laws.proofs.Extremes.{least-only}
+use Rattle.laws.proofs.First.{first-within}
 use Rattle.laws.proofs.Rows.{Told, stop, past, Call, exactly, refusal-exactly}
-use Rattle.sheet.specs.Fields.{count, nth, firstBad, Bad}
+use Rattle.sheet.specs.Fields.{count, nth, badAt, firstBad, Bad}
 use Rattle.sheet.specs.Packing.{size, groupsOf, figuresIn, Bytes, SpareSet}
 use Rattle.sheet.specs.Refusals.{readRows, readNumber, readField}
 use Rattle.sheet.specs.Sheets.{sheetOf, sheetFrom, readGroups, readOf}
@@ -47,6 +48,17 @@ why b = go (eqb (length b) size) (eqb (nth v count) 0) (eqb (firstBad v) 0) refl
     go true true false p q r = bad-field (firstBad v) (eqb-true _ _ p) (eqb-true _ _ q) refl (eqb-false _ _ r)
     go true false n p q r = spare-bit (eqb-true _ _ p) (eqb-false _ _ q)
     go false z n p q r = wrong-length (eqb-false _ _ p)
+
+-- a field that is named is one of the sheet's
+pub named-within : (b : List ℕ) → readField (readOf b) ≤ count
+unfolding firstBad
+named-within b = go (readOf b) (why b)
+  where
+    go : (r : SheetRead) → Why b r → readField r ≤ count
+    go r (wrong-length h) = zero-le
+    go r (spare-bit l z) = zero-le
+    go r (bad-field k l z f n) = omega (arith, f, first-within (badAt (groupsOf b)) count)
+    go r (good l z f) = zero-le
 
 -- what is told of a reading: a sheet is that of the bytes' groups, and a bad field that is named is the first
 abbrev pub Unread : List ℕ → SheetRead → Type 0
