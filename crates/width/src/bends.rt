@@ -1,6 +1,6 @@
 // Bends: the least radius and the widening (definition, section 6).
 ghost use mathlib.Core.Path.{_≡_};
-ghost use Prim.Native.Nat.{_*_, _<_};
+ghost use Prim.Native.Nat.{_*_, _^_, _<_};
 ghost use Rattle.laws.specs.Rounding.{up};
 ghost use Rattle.width.specs.Bends.{leastLengths, wideningOf, LongEnough};
 use lanes::Lanes;
@@ -30,6 +30,7 @@ const DENOMINATOR: u64 = 305750000;
 pub fn widening(turn: u8, radius: u16, length: u16, knots: u8, lanes: Lanes) -> u32
     requires { ⌜ LongEnough radius length ⌝ }
     ensures { λ r. ⌜ r ≡ wideningOf turn radius length knots lanes ⌝ }
+    ensures small { λ r. ⌜ r < 2 ^ 31 ⌝ }
 {
     let ship = NUMERATOR
         * (turn as u64)

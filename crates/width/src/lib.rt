@@ -1,7 +1,8 @@
 // The width of a stretch, in tenths of the beam, and its bends (definition, sections 5 and 6).
 ghost use mathlib.Core.Path.{_≡_};
+ghost use Prim.Native.Nat.{_<_, _^_};
 ghost use Rattle.width.specs.Bands.{waterOf, speedBandOf, entriesOf};
-ghost use Rattle.width.specs.Bends.{bendOf};
+ghost use Rattle.width.specs.Bends.{bendOf, wideningFigure};
 ghost use Rattle.width.specs.Refusals.{widthFaultNumber};
 ghost use Rattle.width.specs.Width.{itemsOf, tenthsOf, widthOf, laneAndAdded};
 use datum::AlongCurrent;
@@ -167,6 +168,7 @@ pub fn items_of(stretch: Stretch, entries: Entries) -> Items
 // The width of a stretch with its entries, in cm: its tenths of the beam, rounded up once.
 pub fn width_of(stretch: Stretch, entries: Entries) -> u32
     ensures { λ r. ⌜ r ≡ widthOf stretch entries ⌝ }
+    ensures small { λ r. ⌜ r < 2 ^ 31 ⌝ }
 {
     let items = items_of(stretch, entries);
     let lanes = stretch.lanes;
@@ -203,6 +205,7 @@ fn lane_and_added(items: Items) -> u16
 // What a bend of a turn in degrees and a radius in m asks for, by the ship's length in cm, its speed and the lanes.
 pub fn bend_of(turn: u8, radius: u16, length: u16, knots: u8, lanes: Lanes) -> Bend
     ensures { λ r. ⌜ r ≡ bendOf turn radius length knots lanes ⌝ }
+    ensures small { λ r. ⌜ wideningFigure r < 2 ^ 31 ⌝ }
 {
     if turn == 0 {
         return Bend::Widening(0);

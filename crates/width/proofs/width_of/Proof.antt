@@ -17,7 +17,7 @@ add-result : tie.Need-add-result
 add-result c = record { fits = omega (arith, product-within (c .before)) }
 
 returns : tie.Need-returns
-returns c = rounded _ _ _ (c .before .before .items-of .ensures) _ (c .before .tenths-of .ensures)
+returns c = (rounded _ _ _ (c .before .before .items-of .ensures) _ (c .before .tenths-of .ensures), omega (arith, product-within (c .before)))
 
 pub width-of-spec : {M : Type 1} → statement M
 width-of-spec =

@@ -3,21 +3,10 @@ use mathlib.Core.Path.{_≡_}
 use mir.Syntax.{w32}
 use mir.Val.{toZ, ofZ}
 use mir.Facts.{toZ-ofZ}
-use native.Mathlib.Omega.{arith}
 use borrow.Author.Needs.{needs}
-use Rattle.width.proofs.Sizes.{width-small}
 use Rattle.design.specs.Design.{figuresOf}
 use Rattle.design.proofs.working.figures_of.Statement.{statement}
 use Rattle.design.proofs.working.figures_of.Tie as tie
-
--- the width of a beam of 16 bits with entries of 8
-signed-requires : tie.Need-signed-requires
-signed-requires c κs =
-    let stretch = c .before .before in
-    let start = stretch .before .before .before .before in
-    rw (c .before .width-of .ensures)
-    (width-small (stretch .width-stretch .result) (start .args .entries) (omega (arith, stretch .width-stretch .ok)) (omega (arith, start .good .1))
-    (omega (arith, start .good .1)))
 
 returns : tie.Need-returns
 unfolding figuresOf
@@ -32,7 +21,7 @@ returns c =
       c .before .signed .ensures,
       c .signed2 .ensures,
       classed .classes-of .ensures,
-      wide .width-of .ensures,
+      wide .width-of .ensures .0,
       wide .before .width-stretch .ensures,
       wide .before .before .datum-depth .ensures,
     )
@@ -45,6 +34,6 @@ figures-of-spec =
     (λ c κs. search needs)
     (λ c κs. search needs)
     (λ c κs. search needs)
-    signed-requires
+    (λ c κs. search needs)
     (λ c κs. search needs)
     returns)

@@ -56,7 +56,10 @@ cast-result : tie.Need-cast-result
 cast-result c = record { fits = omega (arith, small c) }
 
 returns : tie.Need-returns
-returns c = widening-is _ _ _ _ _ _ _ (c .before .before .pre .some) (c .before .lane-count .ensures) (c .scaled .ensures)
+returns c = (
+  widening-is _ _ _ _ _ _ _ (c .before .before .pre .some) (c .before .lane-count .ensures) (c .scaled .ensures),
+  omega (arith, small c),
+)
 
 pub widening-spec : {M : Type 1} → statement M
 widening-spec =
