@@ -174,7 +174,7 @@ pub answered-figures : (f : Figures)
 unfolding numbersOf
 answered-figures f = refl
 
--- All of them fit 32 bits, over any table, of any bytes; so they do at any level that 16 bits hold.
+-- All of them fit 32 bits, signed: of any bytes, at any level that is held in 16 bits, and so over any table.
 pub numbers-fit-at : (bytes : List ℕ) (read : LevelRead) → ((level : Level) → read ≡ Found level → level .0 < 2 ^ 16)
     → Each (SFits w32) (numbersOf (designAt bytes read))
 numbers-fit-at = design-at-fits

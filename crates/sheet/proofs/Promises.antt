@@ -44,7 +44,7 @@ pub number-3 : (bytes : List ℕ) → Bytes bytes → (k : ℕ)
     → ((readNumber (readOf bytes) ≡ 3) × (readField (readOf bytes) ≡ k)) ↔ (Least (Bad (groupsOf bytes)) k × NoneBefore (readRows bytes) 3)
 number-3 = named-exactly
 
--- A field that is named is one of the 28, and where none is named the field is 0.
+-- The field that is given is at most 28.
 pub field-within : (bytes : List ℕ) → readField (readOf bytes) ≤ count
 field-within = named-within
 

@@ -1,7 +1,7 @@
 mod Totals
 mod Meaning
 mod Growth
-pub mod Sizes
+mod Sizes
 pub mod Refusals
 mod Cases
 pub mod Promises

@@ -29,7 +29,7 @@ use Rattle.width.proofs.additions.Banks.{bank-within}
 use Rattle.width.proofs.bends.Ways.{long-enough}
 use Rattle.width.proofs.bends.Products.{widening-to}
 
--- as many tenths as an item is held in
+-- as few tenths as 8 bits hold
 abbrev Few : ℕ → Type 0
 Few tenths = tenths < 2 ^ 8
 
@@ -86,7 +86,7 @@ unfolding tenthsOf
 tenths-within One i few = omega arith
 tenths-within Two i few = omega arith
 
-pub width-small : (s : Stretch) (e : Entries) → s .beam < 2 ^ 16 → Few (e .cross) → Few (e .wave) → widthOf s e < 2 ^ 31
+width-small : (s : Stretch) (e : Entries) → s .beam < 2 ^ 16 → Few (e .cross) → Few (e .wave) → widthOf s e < 2 ^ 31
 unfolding widthOf
 width-small s e beam c w =
     let tenths = tenthsOf (s .lanes) (itemsOf s e) in
@@ -94,7 +94,7 @@ width-small s e beam c w =
     mul-le-mul {m₂ = 65535} (tenths-within (s .lanes) (itemsOf s e) (items-few s e c w)) (omega arith) in
     omega (arith, up-le (tenths * s .beam) 10 (21 * 255 * 65535) (omega arith) .1 (omega arith))
 
--- the entries that the tables of bands give are few
+-- the entries of the tables of bands
 abbrev FewIn : Entry → Type 0
 FewIn (Tenths n) = Few n
 FewIn Blank = Unit {0}
@@ -117,7 +117,7 @@ wave-few : (water : Water) (band : SpeedBand) (wave : ℕ) → FewIn (waveEntry 
 unfolding waveEntry
 wave-few water band wave = search tables depth 8
 
--- so is the figure of a stretch, by the entries that it has or has not
+-- the figure of a stretch, by the entries that it has or has not
 module _ (s : Stretch) (beam : s .beam < 2 ^ 16) where
   from-entries : (water : Water) (band : SpeedBand) (cross wave : Entry) → FewIn cross → FewIn wave
       → widthFigure s (entriesBy water band cross wave) < 2 ^ 31

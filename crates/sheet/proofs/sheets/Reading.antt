@@ -49,7 +49,7 @@ why b = go (eqb (length b) size) (eqb (nth v count) 0) (eqb (firstBad v) 0) refl
     go true false n p q r = spare-bit (eqb-true _ _ p) (eqb-false _ _ q)
     go false z n p q r = wrong-length (eqb-false _ _ p)
 
--- a field that is named is one of the sheet's
+-- the field that is given is at most 28
 pub named-within : (b : List ℕ) → readField (readOf b) ≤ count
 unfolding firstBad
 named-within b = go (readOf b) (why b)
