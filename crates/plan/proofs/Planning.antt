@@ -15,19 +15,20 @@ use lib.Seq.{drop-at, take-at}
 use Rattle.laws.specs.Choice.{if_then_else_}
 use Rattle.laws.specs.Each.{Each}
 use Rattle.laws.specs.Rows.{_when_, Exactly}
+use Rattle.laws.proofs.Never.{never}
 use Rattle.laws.proofs.Rows.{in-front}
 use Rattle.sheet.specs.Packing.{Bytes}
 use Rattle.design.specs.Numbers.{codeOf, numberCount, numbersOf}
 use Rattle.design.specs.Refusals.{rows}
 use Rattle.design.specs.declared.Answer.{Answer}
-use Rattle.design.proofs.Promises.{no-table, number-given, unlisted-never, all-numbers, numbers-fit}
+use Rattle.design.proofs.Promises.{no-table, number-given, unlisted-never, all-numbers, numbers-fit-at}
 use Rattle.plan.specs.Words.{bytesOfNumbers, numberAt}
 use Rattle.plan.specs.Plan.{needed, planned, planNumber, planPlace, planRows}
 use Rattle.plan.proofs.Placing.{bytes-length}
 use Rattle.plan.proofs.Reading.{number-back}
 
 pub planned-fits : (sheet : List ℕ) → Each (SFits w32) (numbersOf (planned sheet))
-planned-fits sheet = rw no-table (numbers-fit sheet [])
+planned-fits sheet = numbers-fit-at sheet _ (λ level e. never cc)
 
 module _ (sheet place : List ℕ) where
   pub too-small : length place < needed → (12 ≡ planNumber sheet place) × (place ≡ planPlace sheet place)
