@@ -4,7 +4,7 @@
 use mathlib.Core.Path.{_≡_, refl}
 use mathlib.Core.List.{List, [], _∷_, map}
 use mathlib.Core.Logic.{_↔_, _≢_, _⊎_}
-use Prim.Native.Nat.{ℕ, _-_, _^_, _≤_, _<_}
+use Prim.Native.Nat.{ℕ, _-_, _≤_}
 use native.Mathlib.Omega.{arith}
 use lib.Dec.{T}
 use lib.IntN.{ℤ, pos}
@@ -33,7 +33,7 @@ use Rattle.lanes.specs.Lanes.{laneCount}
 use Rattle.gauge.specs.declared.LevelRead.{LevelRead}
 use Rattle.gauge.specs.declared.LevelRead.the-variants.{Found, NoLevel}
 use Rattle.gauge.specs.declared.LevelFault.the-variants.{WrongTable}
-use Rattle.gauge.proofs.Promises.{refused-changes-nothing, level-found-within}
+use Rattle.gauge.proofs.Promises.{refused-changes-nothing}
 use Rattle.depth.specs.Depth.{Meets}
 use Rattle.depth.specs.declared.DepthFault.{DepthFault}
 use Rattle.design.specs.Design.{levelFor, designAt, designOf}
@@ -50,7 +50,7 @@ use Rattle.design.specs.declared.Answer.the-variants.{Answered, Refused}
 use Rattle.design.proofs.answers.Numbers as the-numbers
 use Rattle.design.proofs.rows.Readings.{sheet-read, level-read}
 use Rattle.design.proofs.answers.Figures.{figures-only}
-use Rattle.design.proofs.answers.Fitting.{design-at-fits}
+use Rattle.design.proofs.Fitting.{design-fits}
 use Rattle.design.proofs.rows.Exactly.{design-exactly, field-exactly, figures-exactly, no-depth-only as no-depth-said}
 use Rattle.design.proofs.harder.Never.{deepens, broadens}
 use Rattle.design.proofs.Starred as the-starred
@@ -174,14 +174,9 @@ pub answered-figures : (f : Figures)
 unfolding numbersOf
 answered-figures f = refl
 
--- All of them fit 32 bits, signed: of any bytes, at any level that is held in 16 bits, and so over any table.
-pub numbers-fit-at : (bytes : List ℕ) (read : LevelRead) → ((level : Level) → read ≡ Found level → level .0 < 2 ^ 16)
-    → Each (SFits w32) (numbersOf (designAt bytes read))
-numbers-fit-at = design-at-fits
-
-pub numbers-fit : (bytes table : List ℕ) → Each (SFits w32) (numbersOf (designOf bytes table))
-unfolding designOf
-numbers-fit bytes table = numbers-fit-at bytes (designLevel table) (λ level e. omega (arith, level-found-within table level e))
+-- All of them fit 32 bits, signed.
+pub numbers-fit : (bytes table : List ℕ) → Bytes bytes → Each (SFits w32) (numbersOf (designOf bytes table))
+numbers-fit = design-fits
 
 -- Each call has one result.
 pub design-unique : (bytes table : List ℕ) (r s : Answer) → r ≡ designOf bytes table → s ≡ designOf bytes table → r ≡ s

@@ -3,4 +3,3 @@ pub mod Numbers
 pub mod Held
 pub mod Figures
 pub mod Ways
-pub mod Fitting

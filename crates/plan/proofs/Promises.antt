@@ -39,11 +39,11 @@ pub numbers-written : (sheet place : List ℕ) → needed ≤ length place → t
 numbers-written = numbers-first
 
 -- All numbers of the design fit 32 bits.
-pub numbers-fit : (sheet : List ℕ) → Each (SFits w32) (numbersOf (planned sheet))
+pub numbers-fit : (sheet : List ℕ) → Bytes sheet → Each (SFits w32) (numbersOf (planned sheet))
 numbers-fit = planned-fits
 
 -- So number i, read back from its four bytes, most significant first and signed, is the design's number i.
-pub number-read-back : (sheet place : List ℕ) → needed ≤ length place → (i : ℕ) → i < numberCount
+pub number-read-back : (sheet place : List ℕ) → Bytes sheet → needed ≤ length place → (i : ℕ) → i < numberCount
     → numberAt (planPlace sheet place) i ≡ getD (numbersOf (planned sheet)) i (pos 0)
 number-read-back = number-in-place
 

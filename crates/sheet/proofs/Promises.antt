@@ -21,6 +21,7 @@ use Rattle.sheet.specs.declared.SheetWritten.{SheetWritten}
 use Rattle.sheet.specs.declared.SheetWritten.the-variants.{Done}
 use Rattle.sheet.proofs.bits.Packed.{packed}
 use Rattle.sheet.proofs.sheets.OneWriting.{one-writing, written-read}
+use Rattle.sheet.proofs.fields.BadFields.{bad-within as bad-is-field}
 use Rattle.sheet.proofs.sheets.Valid.{fine}
 use Rattle.sheet.proofs.sheets.Making.{from-named-exactly, from-good-exactly, figures-of-made, from-figures}
 use Rattle.sheet.proofs.sheets.Reading.{read-exactly, wrong-length-exactly, named-within, named-exactly, good-exactly, read-by-figures}
@@ -44,7 +45,10 @@ pub number-3 : (bytes : List ℕ) → Bytes bytes → (k : ℕ)
     → ((readNumber (readOf bytes) ≡ 3) × (readField (readOf bytes) ≡ k)) ↔ (Least (Bad (groupsOf bytes)) k × NoneBefore (readRows bytes) 3)
 number-3 = named-exactly
 
--- The field that is given is at most 28.
+-- A bad field is one of the 28, and the field that is given is at most 28.
+pub bad-within : (figures : List ℕ) (k : ℕ) → Bad figures k → k ≤ count
+bad-within = bad-is-field
+
 pub field-within : (bytes : List ℕ) → readField (readOf bytes) ≤ count
 field-within = named-within
 

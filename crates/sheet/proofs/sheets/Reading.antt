@@ -13,9 +13,8 @@ use Rattle.laws.specs.Choice.{if_then_else_}
 use Rattle.laws.specs.Extremes.{Least}
 use Rattle.laws.specs.Rows.{NoneBefore, Exactly}
 use Rattle.laws.proofs.Extremes.{least-only}
-use Rattle.laws.proofs.First.{first-within}
 use Rattle.laws.proofs.Rows.{Told, stop, past, Call, exactly, refusal-exactly}
-use Rattle.sheet.specs.Fields.{count, nth, badAt, firstBad, Bad}
+use Rattle.sheet.specs.Fields.{count, nth, firstBad, Bad}
 use Rattle.sheet.specs.Packing.{size, groupsOf, figuresIn, Bytes, SpareSet}
 use Rattle.sheet.specs.Refusals.{readRows, readNumber, readField}
 use Rattle.sheet.specs.Sheets.{sheetOf, sheetFrom, readGroups, readOf}
@@ -24,7 +23,7 @@ use Rattle.sheet.specs.declared.SheetRead.{SheetRead}
 use Rattle.sheet.specs.declared.SheetRead.the-variants.{Good, NoSheet}
 use Rattle.sheet.specs.declared.ReadFault.the-variants.{WrongLength, SpareBitSet, BadField}
 use Rattle.sheet.proofs.sheets.Answers.{read-length, read-from, figures-in}
-use Rattle.sheet.proofs.fields.BadFields.{first-least, none-bad}
+use Rattle.sheet.proofs.fields.BadFields.{bad-within, first-least, none-bad}
 use Rattle.sheet.proofs.sheets.Making.{from-good}
 use Rattle.sheet.proofs.bits.Spare.{spare-set}
 
@@ -51,13 +50,12 @@ why b = go (eqb (length b) size) (eqb (nth v count) 0) (eqb (firstBad v) 0) refl
 
 -- the field that is given is at most 28
 pub named-within : (b : List ℕ) → readField (readOf b) ≤ count
-unfolding firstBad
 named-within b = go (readOf b) (why b)
   where
     go : (r : SheetRead) → Why b r → readField r ≤ count
     go r (wrong-length h) = zero-le
     go r (spare-bit l z) = zero-le
-    go r (bad-field k l z f n) = omega (arith, f, first-within (badAt (groupsOf b)) count)
+    go r (bad-field k l z f n) = bad-within (groupsOf b) k (first-least (groupsOf b) k .0 (f, n) .holds)
     go r (good l z f) = zero-le
 
 -- what is told of a reading: a sheet is that of the bytes' groups, and a bad field that is named is the first
