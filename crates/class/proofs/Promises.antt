@@ -43,8 +43,16 @@ pub route-takes-smallest : (ships : List ℕ) → ((k : ℕ) → List·Memᴰ k 
     → Least (λ (k : ℕ). List·Memᴰ k ships) (routeClass ships)
 route-takes-smallest = smallest
 
+-- No class of a stretch is over 4.
 pub ship-class-within : (deadweight : ℕ) → shipClass deadweight ≤ 4
 ship-class-within = class-within 40000 20000 10000 5000
+
+pub width-class-within : (lanes : Lanes) (width : ℕ) → widthClass lanes width ≤ 4
+width-class-within One = class-within 11000 9000 7000 5000
+width-class-within Two = class-within 24000 20000 16000 12000
+
+pub depth-class-within : (s : BelowLevel) → depthClass s ≤ 4
+depth-class-within s = class-within 1400 1100 900 800 (s .0)
 
 -- One answer of each call.
 pub ship-unique : (deadweight r t : ℕ) → r ≡ shipClass deadweight → t ≡ shipClass deadweight → r ≡ t

@@ -34,8 +34,11 @@ module _ (w : Width) (held : ℕ) (small : held + 502 < 2 ^ hbits w) where
   level-is : toZ w held -ℤ pos 500 ≡ pos held -ℤ pos 500
   level-is = ap (λ (x : ℤ). x -ℤ pos 500) (toZ-pos w (omega arith))
 
+  pub level-small : SFits w (pos held -ℤ pos 500)
+  level-small = record { sfits = omega (arith, mag-sub (pos held) (pos 500)) }
+
   pub level-fits : SFits w (toZ w held -ℤ pos 500)
-  level-fits = rw level-is (record { sfits = omega (arith, mag-sub (pos held) (pos 500)) })
+  level-fits = rw level-is level-small
 
   pub level-back : toZ w (ofZ w (toZ w held -ℤ pos 500)) ≡ pos held -ℤ pos 500
   level-back = toZ-ofZ level-fits ∙ level-is
@@ -45,9 +48,11 @@ module _ (w : Width) (held : ℕ) (small : held + 502 < 2 ^ hbits w) where
     less-is : toZ w n -ℤ toZ w (ofZ w (toZ w held -ℤ pos 500)) ≡ pos n -ℤ (pos held -ℤ pos 500)
     less-is = ap₂ _-ℤ_ (toZ-pos w (omega arith)) level-back
 
+    pub less-small : SFits w (pos n -ℤ (pos held -ℤ pos 500))
+    less-small = record { sfits = omega (arith, mag-sub (pos n) (pos held -ℤ pos 500), mag-sub (pos held) (pos 500)) }
+
     pub less-fits : SFits w (toZ w n -ℤ toZ w (ofZ w (toZ w held -ℤ pos 500)))
-    less-fits =
-        rw less-is (record { sfits = omega (arith, mag-sub (pos n) (pos held -ℤ pos 500), mag-sub (pos held) (pos 500)) })
+    less-fits = rw less-is less-small
 
     pub less-back : toZ w (ofZ w (toZ w n -ℤ toZ w (ofZ w (toZ w held -ℤ pos 500)))) ≡ pos n -ℤ (pos held -ℤ pos 500)
     less-back = toZ-ofZ less-fits ∙ less-is

@@ -2,4 +2,5 @@ mod rows
 mod harder
 mod answers
 mod Starred
+mod Fitting
 pub mod Promises

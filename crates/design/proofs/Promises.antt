@@ -9,6 +9,8 @@ use native.Mathlib.Omega.{arith}
 use lib.Dec.{T}
 use lib.IntN.{ℤ, pos}
 use lib.ListN.{length, take, replicate}
+use mir.Syntax.{w32}
+use mir.Val.{SFits}
 use Rattle.laws.specs.Each.{Each, _&_}
 use Rattle.laws.specs.Extremes.{Least}
 use Rattle.laws.specs.Rows.{NoneBefore, None, Listed, Exactly}
@@ -48,6 +50,7 @@ use Rattle.design.specs.declared.Answer.the-variants.{Answered, Refused}
 use Rattle.design.proofs.answers.Numbers as the-numbers
 use Rattle.design.proofs.rows.Readings.{sheet-read, level-read, other-length}
 use Rattle.design.proofs.answers.Figures.{figures-only}
+use Rattle.design.proofs.Fitting.{design-fits}
 use Rattle.design.proofs.rows.Exactly.{design-exactly, field-exactly, figures-exactly, no-depth-only as no-depth-said}
 use Rattle.design.proofs.harder.Never.{deepens, broadens}
 use Rattle.design.proofs.Starred as the-starred
@@ -178,6 +181,10 @@ pub answered-figures : (f : Figures)
     ∷ f .widening ∷ pos (f .columns) ∷ pos (f .classes .ship) ∷ pos (f .classes .width) ∷ pos (f .classes .depth) ∷ []
 unfolding numbersOf
 answered-figures f = refl
+
+-- All of them fit 32 bits, signed.
+pub numbers-fit : (bytes table : List ℕ) → Bytes bytes → Each (SFits w32) (numbersOf (designOf bytes table))
+numbers-fit = design-fits
 
 -- Each call has one result.
 pub design-unique : (bytes table : List ℕ) (r s : Answer) → r ≡ designOf bytes table → s ≡ designOf bytes table → r ≡ s

@@ -1,7 +1,8 @@
 -- What the lane rule promises (section 3).
 use mathlib.Core.Path.{_≡_}
 use mathlib.Core.Logic.{_↔_}
-use Prim.Native.Nat.{ℕ, _*_, _<_}
+use Prim.Native.Nat.{ℕ, _*_, _≤_, _<_}
+use native.Mathlib.Omega.{arith}
 use Rattle.laws.proofs.Unique.{one-answer}
 use Rattle.lanes.specs.Lanes.{laneCount, byTraffic, lanesOf}
 use Rattle.lanes.specs.declared.Lanes.{Lanes}
@@ -21,6 +22,11 @@ two-named = named-two
 
 pub none-named : (channel ships knots named : ℕ) → (named ≡ 1 → ⊥) → (named ≡ 2 → ⊥) → lanesOf named channel ships knots ≡ byTraffic channel ships knots
 none-named = by-traffic-else
+
+-- There are at most two.
+pub lanes-within : (lanes : Lanes) → laneCount lanes ≤ 2
+lanes-within One = omega arith
+lanes-within Two = omega arith
 
 -- One answer of each call.
 pub lanes-unique : (named channel ships knots : ℕ) (r s : Lanes) → r ≡ lanesOf named channel ships knots → s ≡ lanesOf named channel ships knots → r ≡ s

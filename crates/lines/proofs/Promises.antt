@@ -14,9 +14,11 @@ use Rattle.laws.proofs.Unique.{one-answer}
 use Rattle.laws.specs.Each.{Each}
 use Rattle.lines.specs.Decimals.{digits, valueOf, Decimal, minus, countText, numberText}
 use Rattle.sheet.specs.CaseS.{sheetS}
+use Rattle.sheet.specs.Packing.{Bytes}
 use Rattle.design.specs.Design.{designOf}
 use Rattle.design.specs.Numbers.{numberCount, numbersOf}
 use Rattle.design.specs.Starred.{writing}
+use Rattle.design.proofs.Promises.{all-numbers, numbers-fit}
 use Rattle.lines.specs.Starred.{lineOfS}
 use Rattle.lines.specs.Lines.{levelsLine, sheetLine, routeLine, lineBytes, placeAfter, bufferAfter}
 use Rattle.lines.proofs.decimals.Meaning.{digits-value, digits-decimal, decimal-only}
@@ -64,6 +66,12 @@ route-of-line = route-line-one
 pub sheet-line-fits : (index : ℕ) (numbers : List ℤ) → index < 2 ^ 64 → length numbers ≡ numberCount → Each (SFits w32) numbers
     → length (sheetLine index numbers) ≤ 12 * numberCount + 21
 sheet-line-fits = sheet-line-size
+
+-- So has the line of a design.
+pub design-line-fits : (index : ℕ) (bytes table : List ℕ) → index < 2 ^ 64 → Bytes bytes
+    → length (sheetLine index (numbersOf (designOf bytes table))) ≤ 12 * numberCount + 21
+design-line-fits index bytes table held small =
+    sheet-line-fits index (numbersOf (designOf bytes table)) held (all-numbers (designOf bytes table)) (numbers-fit bytes table small)
 
 pub levels-line-fits : (added missing refused : ℕ) → added < 2 ^ 64 → missing < 2 ^ 64 → refused < 2 ^ 64
     → length (levelsLine added missing refused) ≤ 65

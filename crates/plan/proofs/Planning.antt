@@ -13,17 +13,21 @@ use mir.Syntax.{w32}
 use mir.Val.{SFits}
 use lib.Seq.{drop-at, take-at}
 use Rattle.laws.specs.Choice.{if_then_else_}
+use Rattle.laws.specs.Each.{Each}
 use Rattle.laws.specs.Rows.{_when_, Exactly}
 use Rattle.laws.proofs.Rows.{in-front}
 use Rattle.sheet.specs.Packing.{Bytes}
 use Rattle.design.specs.Numbers.{codeOf, numberCount, numbersOf}
 use Rattle.design.specs.Refusals.{rows}
 use Rattle.design.specs.declared.Answer.{Answer}
-use Rattle.design.proofs.Promises.{no-table, number-given, unlisted-never, all-numbers}
+use Rattle.design.proofs.Promises.{no-table, number-given, unlisted-never, all-numbers, numbers-fit}
 use Rattle.plan.specs.Words.{bytesOfNumbers, numberAt}
 use Rattle.plan.specs.Plan.{needed, planned, planNumber, planPlace, planRows}
 use Rattle.plan.proofs.Placing.{bytes-length}
 use Rattle.plan.proofs.Reading.{number-back}
+
+pub planned-fits : (sheet : List ℕ) → Bytes sheet → Each (SFits w32) (numbersOf (planned sheet))
+planned-fits sheet small = rw no-table (numbers-fit sheet [] small)
 
 module _ (sheet place : List ℕ) where
   pub too-small : length place < needed → (12 ≡ planNumber sheet place) × (place ≡ planPlace sheet place)
@@ -66,12 +70,12 @@ module _ (sheet place : List ℕ) where
   unfolding planPlace
   numbers-first h = rw (le-ltb (length place) needed h) (take-at (bytesOfNumbers (numbersOf (planned sheet))) (drop needed place) needed filled)
 
-  pub number-in-place : needed ≤ length place → (i : ℕ) → i < numberCount → SFits w32 (getD (numbersOf (planned sheet)) i (pos 0))
+  pub number-in-place : Bytes sheet → needed ≤ length place → (i : ℕ) → i < numberCount
       → numberAt (planPlace sheet place) i ≡ getD (numbersOf (planned sheet)) i (pos 0)
   unfolding planPlace
-  number-in-place h i k f =
+  number-in-place small h i k =
       rw (le-ltb (length place) needed h)
-      (number-back (numbersOf (planned sheet)) (drop needed place) i (omega (arith, all-numbers (planned sheet))) f)
+      (number-back (numbersOf (planned sheet)) (drop needed place) i (omega (arith, all-numbers (planned sheet))) (planned-fits sheet small))
 
   pub later-stay : drop needed (planPlace sheet place) ≡ drop needed place
   unfolding planPlace

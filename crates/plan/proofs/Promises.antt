@@ -7,6 +7,7 @@ use lib.IntN.{pos}
 use lib.ListN.{length, take, drop, getD}
 use mir.Syntax.{w32}
 use mir.Val.{SFits}
+use Rattle.laws.specs.Each.{Each}
 use Rattle.laws.specs.Rows.{Exactly}
 use Rattle.laws.proofs.Unique.{one-answer}
 use Rattle.sheet.specs.Packing.{Bytes}
@@ -15,7 +16,7 @@ use Rattle.design.specs.Numbers.{codeOf, numberCount, numbersOf}
 use Rattle.design.proofs.Promises.{no-table}
 use Rattle.plan.specs.Words.{bytesOfNumbers, numberAt}
 use Rattle.plan.specs.Plan.{needed, planned, planNumber, planPlace, planRows}
-use Rattle.plan.proofs.Planning.{too-small, twelve-exactly, number-exactly, code-where-large, numbers-first, number-in-place, later-stay}
+use Rattle.plan.proofs.Planning.{too-small, twelve-exactly, number-exactly, code-where-large, numbers-first, planned-fits, number-in-place, later-stay}
 
 -- 12, tested first: a place with fewer bytes than the numbers need.
 pub number-12 : (sheet place : List ℕ) → (planNumber sheet place ≡ 12) ↔ (length place < needed)
@@ -37,8 +38,12 @@ code-returned = code-where-large
 pub numbers-written : (sheet place : List ℕ) → needed ≤ length place → take needed (planPlace sheet place) ≡ bytesOfNumbers (numbersOf (planned sheet))
 numbers-written = numbers-first
 
--- Number i, read back from its four bytes, most significant first and signed, is the design's number i, where it is one of 32 bits.
-pub number-read-back : (sheet place : List ℕ) → needed ≤ length place → (i : ℕ) → i < numberCount → SFits w32 (getD (numbersOf (planned sheet)) i (pos 0))
+-- All numbers of the design fit 32 bits.
+pub numbers-fit : (sheet : List ℕ) → Bytes sheet → Each (SFits w32) (numbersOf (planned sheet))
+numbers-fit = planned-fits
+
+-- So number i, read back from its four bytes, most significant first and signed, is the design's number i.
+pub number-read-back : (sheet place : List ℕ) → Bytes sheet → needed ≤ length place → (i : ℕ) → i < numberCount
     → numberAt (planPlace sheet place) i ≡ getD (numbersOf (planned sheet)) i (pos 0)
 number-read-back = number-in-place
 

@@ -1,14 +1,15 @@
 -- A number's four bytes read back are the number: the bytes join to its word, and the word, by its sign, is the number.
-use mathlib.Core.Path.{_≡_, refl, ap, _∙_}
+use mathlib.Core.Path.{_≡_, ap, _∙_}
 use mathlib.Core.List.{List, [], _∷_, _++_}
 use Prim.Native.Nat.{ℕ, zero, suc, _+_, _-_, _*_, _/_, _%_, _<_}
 use native.Mathlib.Nat.{not-suc-le-zero, le-of-suc-le-suc}
 use native.Mathlib.Omega.{arith}
 use borrow.Author.Tests.{lt-ltb, le-ltb}
 use lib.IntN.{ℤ, pos, negsuc}
-use lib.ListN.{length, take, drop, getD}
+use lib.ListN.{length, getD}
 use mir.Syntax.{w32}
 use mir.Val.{SFits, ofZ}
+use Rattle.laws.specs.Each.{Each}
 use Rattle.plan.specs.Words.{wordBytes, bytesOfNumbers, wordOf, signedOf, numberAt}
 
 -- a word under 2 ^ 32 comes back from its bytes
@@ -38,14 +39,10 @@ read-back : (z : ℤ) → SFits w32 z → signedOf (wordOf (wordBytes (ofZ w32 z
 read-back z f = ap signedOf (word-back (ofZ w32 z) (word-fits z f)) ∙ sign-back z f
 
 -- number i stands in the four bytes from 4 * i on
-at-number : (numbers : List ℤ) (rest : List ℕ) (i : ℕ) → i < length numbers
-    → take 4 (drop (4 * i) (bytesOfNumbers numbers ++ rest)) ≡ wordBytes (ofZ w32 (getD numbers i (pos 0)))
-at-number [] rest i h = absurd (not-suc-le-zero h)
-at-number (z ∷ numbers) rest zero h = refl
-at-number (z ∷ numbers) rest (suc i) h =
-    let four : 4 * suc i ≡ suc (suc (suc (suc (4 * i)))) = omega arith in
-    rw four (at-number numbers rest i (le-of-suc-le-suc h))
-
-pub number-back : (numbers : List ℤ) (rest : List ℕ) (i : ℕ) → i < length numbers → SFits w32 (getD numbers i (pos 0))
+pub number-back : (numbers : List ℤ) (rest : List ℕ) (i : ℕ) → i < length numbers → Each (SFits w32) numbers
     → numberAt (bytesOfNumbers numbers ++ rest) i ≡ getD numbers i (pos 0)
-number-back numbers rest i h f = ap (λ (bytes : List ℕ). signedOf (wordOf bytes)) (at-number numbers rest i h) ∙ read-back _ f
+number-back [] rest i h f = absurd (not-suc-le-zero h)
+number-back (z ∷ numbers) rest zero h f = read-back z (f .0)
+number-back (z ∷ numbers) rest (suc i) h f =
+    let four : 4 * suc i ≡ suc (suc (suc (suc (4 * i)))) = omega arith in
+    rw four (number-back numbers rest i (le-of-suc-le-suc h) (f .1))

@@ -7,7 +7,7 @@ use lib.ListN.{length, take, drop}
 use Rattle.laws.specs.Extremes.{Least}
 use Rattle.laws.specs.Rows.{NoneBefore, Exactly}
 use Rattle.laws.proofs.Unique.{one-answer}
-use Rattle.sheet.specs.Fields.{count, Bad}
+use Rattle.sheet.specs.Fields.{count, nth, least, greatest, Bad}
 use Rattle.sheet.specs.Packing.{size, groupsOf, figuresIn, bytesOf, bitsOfBytes, bitsOfGroups, Bytes, SpareSet}
 use Rattle.sheet.specs.Sheets.{figuresOf, sheetFrom, readOf, writtenOf, placeOf, Valid, Written}
 use Rattle.sheet.specs.Refusals.{readRows, writtenRows, readFaultNumber, readFaultField, readNumber, readField, writeFaultNumber, writeFaultField, writtenNumber, writtenField}
@@ -21,8 +21,10 @@ use Rattle.sheet.specs.declared.SheetWritten.{SheetWritten}
 use Rattle.sheet.specs.declared.SheetWritten.the-variants.{Done}
 use Rattle.sheet.proofs.bits.Packed.{packed}
 use Rattle.sheet.proofs.sheets.OneWriting.{one-writing, written-read}
+use Rattle.sheet.proofs.fields.BadFields.{bad-within as bad-is-field}
+use Rattle.sheet.proofs.sheets.Valid.{fine}
 use Rattle.sheet.proofs.sheets.Making.{from-named-exactly, from-good-exactly, figures-of-made, from-figures}
-use Rattle.sheet.proofs.sheets.Reading.{read-exactly, wrong-length-exactly, named-exactly, good-exactly, read-by-figures}
+use Rattle.sheet.proofs.sheets.Reading.{read-exactly, wrong-length-exactly, named-within, named-exactly, good-exactly, read-by-figures}
 use Rattle.sheet.proofs.sheets.Writing.{written-exactly, too-small-exactly, named-exactly as named-to-write-exactly, done-exactly, read-done, refused-unchanged, past-unchanged}
 use Rattle.sheet.proofs.Starred.{s-read, s-written}
 
@@ -43,6 +45,13 @@ pub number-3 : (bytes : List ℕ) → Bytes bytes → (k : ℕ)
     → ((readNumber (readOf bytes) ≡ 3) × (readField (readOf bytes) ≡ k)) ↔ (Least (Bad (groupsOf bytes)) k × NoneBefore (readRows bytes) 3)
 number-3 = named-exactly
 
+-- A bad field is one of the 28, and the field that is given is at most 28.
+pub bad-within : (figures : List ℕ) (k : ℕ) → Bad figures k → k ≤ count
+bad-within = bad-is-field
+
+pub field-within : (bytes : List ℕ) → readField (readOf bytes) ≤ count
+field-within = named-within
+
 -- Every other string of bytes is a sheet.
 pub else-a-sheet : (bytes : List ℕ) → Bytes bytes
     → ((s : Sheet) × (readOf bytes ≡ Good s)) ↔ ((length bytes ≡ size) × (¬ SpareSet bytes) × ((k : ℕ) → ¬ Bad (groupsOf bytes) k))
@@ -51,6 +60,11 @@ else-a-sheet = good-exactly
 -- What is read is a valid sheet, and the bytes are its writing.
 pub read-is-valid : (bytes : List ℕ) (s : Sheet) → Bytes bytes → readOf bytes ≡ Good s → Written bytes s
 read-is-valid = written-read
+
+-- Every field of a valid sheet is from its least to its greatest value.
+pub valid-in-range : (s : Sheet) → Valid s → (k : ℕ) → k < count → (least k ≤ nth (figuresOf s) k) × (nth (figuresOf s) k ≤ greatest k)
+unfolding Valid
+valid-in-range s v k h = let f = fine (figuresOf s) v k h in (f .low, f .high)
 
 -- 3 in figures of any size: the first bad field's number is given.
 pub number-3-figures : (figures : List ℕ) (k : ℕ)

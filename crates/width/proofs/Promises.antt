@@ -2,7 +2,7 @@
 -- `bendOf` and `widthFaultNumber` are what the calls of like names ensure.
 use mathlib.Core.Path.{_≡_}
 use mathlib.Core.Logic.{_↔_, _≢_}
-use Prim.Native.Nat.{ℕ, _+_, _*_, _≤_, _<_}
+use Prim.Native.Nat.{ℕ, _+_, _*_, _^_, _≤_, _<_}
 use Rattle.laws.specs.Extremes.{Least}
 use Rattle.laws.specs.Rows.{Exactly}
 use Rattle.laws.proofs.Unique.{one-answer}
@@ -12,7 +12,7 @@ use Rattle.lanes.specs.declared.Lanes.{Lanes}
 use Rattle.lanes.specs.declared.Lanes.the-variants.{One, Two}
 use Rattle.width.specs.Bands.{entriesOf}
 use Rattle.width.specs.Width.{itemsOf, laneAndAdded, tenthsOf, widthOf, widthFigure}
-use Rattle.width.specs.Bends.{leastLengths, bendOf}
+use Rattle.width.specs.Bends.{leastLengths, bendOf, wideningFigure}
 use Rattle.width.specs.Refusals.{widthFaultNumber, bendNumber, entriesNumber, bendRows, entriesRows}
 use Rattle.width.specs.Comparing.{Harder, NoNarrower}
 use Rattle.width.specs.Starred.{cases, figures}
@@ -28,6 +28,7 @@ use Rattle.width.proofs.bends.Ways.{straight-always}
 use Rattle.width.proofs.Growth.{never-narrower, figure-rises}
 use Rattle.width.proofs.Refusals.{entries-exactly, bend-exactly}
 use Rattle.width.proofs.Meaning.{rounded-exactly, none-from-ten, widening-exactly}
+use Rattle.width.proofs.Sizes.{width-figure-small, widening-small}
 use Rattle.width.proofs.Cases.{computed}
 
 -- One lane: lane + W + banks. Two: twice lane and W, banks, passing, traffic.
@@ -76,6 +77,15 @@ pub under-ten-lengths : (turn radius length knots : ℕ) (lanes : Lanes) → tur
     → (bendOf turn radius length knots lanes ≡ Widening cm)
     ↔ Least (λ (w : ℕ). 9144 * turn * (knots * knots) * (length * length) * laneCount lanes ≤ w * (2446000000 * radius)) cm
 under-ten-lengths = widening-exactly
+
+-- Both figures are under 2 ^ 31, for numbers of the widths that a sheet's fields are held in.
+pub width-fits : (s : Stretch) → s .beam < 2 ^ 16 → (water speed : ℕ) (cross : CrossCurrent) (wave : ℕ)
+    → widthFigure s (entriesOf water speed cross wave) < 2 ^ 31
+width-fits = width-figure-small
+
+pub widening-fits : (turn radius length knots : ℕ) (lanes : Lanes) → turn < 2 ^ 8 → length < 2 ^ 16 → knots < 2 ^ 8
+    → wideningFigure (bendOf turn radius length knots lanes) < 2 ^ 31
+widening-fits = widening-small
 
 -- The starred cases have their figures.
 pub starred : cases ≡ figures

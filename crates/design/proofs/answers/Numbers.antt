@@ -1,14 +1,16 @@
 -- The numbers of an answer begin with the code and the field, which name one reason; the figures after them are 0 when refused. By cases of the reason.
 use mathlib.Core.Path.{_≡_, refl, sym, ap, ap₂, _∙_}
+use mathlib.Core.Bool.{Bool, true, _&&_}
 use mathlib.Core.List.{List, [], _∷_}
 use mathlib.Core.Logic.{_⊎_, inl, inr, _↔_, _≢_}
 use Prim.Native.Nat.{ℕ, _≤_}
 use native.Mathlib.Omega.{arith}
-use lib.Dec.{T}
+use lib.Dec.{T, leb→le}
 use lib.IntN.{pos}
 use lib.ListN.{length, take}
-use Rattle.laws.specs.Choice.{if_then_else_, _=ᵇ_}
-use Rattle.laws.specs.Rows.{Listed}
+use Rattle.laws.specs.Choice.{if_then_else_, _≤ᵇ_, _=ᵇ_}
+use Rattle.laws.specs.Rows.{Row, Listed}
+use Rattle.laws.proofs.Every.{both-left, both-right}
 use Rattle.laws.proofs.Rows.{absent, present, present-listed, present-other}
 use Rattle.sheet.specs.declared.ReadFault.the-variants.{WrongLength, SpareBitSet, BadField}
 use Rattle.gauge.specs.declared.LevelFault.the-variants.{WrongTable, TooFewReadings, RangeTooWide}
@@ -46,6 +48,20 @@ reason-present bytes table (NoWidth NoWidthEntry) = tt
 reason-present bytes table (NoDepth NoSquatEntry) = tt
 reason-present bytes table (NoDepth SiltOver) = tt
 reason-present bytes table (NoDepth CutOver) = tt
+
+-- each row's number is held in 8 bits, and so is each reason's
+abbrev rowsTo : ℕ → List Row → Bool
+rowsTo most [] = true
+rowsTo most (row ∷ rows) = (row .number ≤ᵇ most) && rowsTo most rows
+
+listed-to : (most : ℕ) (rows : List Row) (number : ℕ) → T (rowsTo most rows) → Listed rows number → number ≤ most
+listed-to most [] number to listed = absurd listed
+listed-to most (row ∷ rows) number to (inl e) = omega (arith, leb→le (row .number) most (both-left (row .number ≤ᵇ most) (rowsTo most rows) to))
+listed-to most (row ∷ rows) number to (inr listed) = listed-to most rows number (both-right (row .number ≤ᵇ most) (rowsTo most rows) to) listed
+
+pub reason-to : (r : Reason) → reasonNumber r ≤ 255
+unfolding rows
+reason-to r = listed-to 255 (rows [] []) (reasonNumber r) tt (present-listed (reasonNumber r) (rows [] []) (reason-present [] [] r))
 
 module _ (bytes table : List ℕ) where
   pub code-listed : (a : Answer) → (codeOf a ≡ 0) ⊎ Listed (rows bytes table) (codeOf a)

@@ -91,6 +91,10 @@ module _ (v : List ℕ) where
   bad-tested n (radius-without-turn a b) = record { at = 25; number = refl; within = omega arith; told = by-pair 25 (radius-tested a b) }
   bad-tested n (figure-without-source a b) = record { at = 27; number = refl; within = omega arith; told = by-pair 27 (level-tested a b) }
 
+  -- so a bad field is one of the fields
+  pub bad-within : (n : ℕ) → Bad v n → n ≤ count
+  bad-within n b = let t = bad-tested n b in omega (arith, t .number, t .within)
+
   -- a test that is not true at a place is false there
   not-told : (j : ℕ) → (badAt v j ≡ true → ⊥) → badAt v j ≡ false
   not-told j n = go (badAt v j) refl

@@ -3,7 +3,7 @@ use mathlib.Core.Path.{_≡_, refl, ap, sym, _∙_}
 use mathlib.Core.Bool.{Bool, true, false}
 use mathlib.Core.List.{List}
 use mathlib.Core.Logic.{_↔_, _≢_}
-use Prim.Native.Nat.{ℕ}
+use Prim.Native.Nat.{ℕ, _≤_, zero-le}
 use native.Mathlib.Omega.{arith}
 use borrow.Author.Tests.{eqb-true, eqb-false}
 use lib.Dec.{eqb}
@@ -23,7 +23,7 @@ use Rattle.sheet.specs.declared.SheetRead.{SheetRead}
 use Rattle.sheet.specs.declared.SheetRead.the-variants.{Good, NoSheet}
 use Rattle.sheet.specs.declared.ReadFault.the-variants.{WrongLength, SpareBitSet, BadField}
 use Rattle.sheet.proofs.sheets.Answers.{read-length, read-from, figures-in}
-use Rattle.sheet.proofs.fields.BadFields.{first-least, none-bad}
+use Rattle.sheet.proofs.fields.BadFields.{bad-within, first-least, none-bad}
 use Rattle.sheet.proofs.sheets.Making.{from-good}
 use Rattle.sheet.proofs.bits.Spare.{spare-set}
 
@@ -47,6 +47,16 @@ why b = go (eqb (length b) size) (eqb (nth v count) 0) (eqb (firstBad v) 0) refl
     go true true false p q r = bad-field (firstBad v) (eqb-true _ _ p) (eqb-true _ _ q) refl (eqb-false _ _ r)
     go true false n p q r = spare-bit (eqb-true _ _ p) (eqb-false _ _ q)
     go false z n p q r = wrong-length (eqb-false _ _ p)
+
+-- the field that is given is at most 28
+pub named-within : (b : List ℕ) → readField (readOf b) ≤ count
+named-within b = go (readOf b) (why b)
+  where
+    go : (r : SheetRead) → Why b r → readField r ≤ count
+    go r (wrong-length h) = zero-le
+    go r (spare-bit l z) = zero-le
+    go r (bad-field k l z f n) = bad-within (groupsOf b) k (first-least (groupsOf b) k .0 (f, n) .holds)
+    go r (good l z f) = zero-le
 
 -- what is told of a reading: a sheet is that of the bytes' groups, and a bad field that is named is the first
 abbrev pub Unread : List ℕ → SheetRead → Type 0

@@ -1,19 +1,15 @@
 -- The widening as it is worked: the fraction in its lowest terms is divided in two steps, and each product and quotient on the way is bounded.
-use mathlib.Core.Path.{_≡_, sym, _∙_}
+use mathlib.Core.Path.{_≡_, refl, sym, _∙_}
 use Prim.Native.Nat.{ℕ, _*_, _/_, _%_, _≤_, _<_}
 use native.Mathlib.Nat.{mul-le-mul, mul-le-mul-left, mul-le-mul-right}
 use native.Mathlib.Omega.{arith}
 use Rattle.laws.specs.Rounding.{up}
 use Rattle.laws.proofs.Rounding.{up-le}
+use Rattle.lanes.proofs.Promises.{lanes-within}
 use Rattle.lanes.specs.declared.Lanes.{Lanes}
-use Rattle.lanes.specs.declared.Lanes.the-variants.{One, Two}
 use Rattle.lanes.specs.Lanes.{laneCount}
 use Rattle.width.specs.Bends.{wideningOf, LongEnough}
 use Rattle.laws.proofs.Quotients.{up-factor, up-twice}
-
-pub lanes-within : (lanes : Lanes) → laneCount lanes ≤ 2
-lanes-within One = omega arith
-lanes-within Two = omega arith
 
 -- the products of the widening
 module _ (turn knots lanes : ℕ) (t : turn ≤ 255) (k : knots ≤ 255) (l : lanes ≤ 2) where
@@ -56,3 +52,12 @@ widening-is turn radius length knots lanes count scaled h n s =
     let whole = 1143 * turn * (knots * knots) * count * (length * length) in
     rw (s, ← n, ← top, ← bottom)
     (up-twice whole 305750000 radius (omega arith) h ∙ sym (up-factor 8 whole (305750000 * radius) (omega arith) (omega arith)))
+
+-- so no widening is over 4,134 lengths
+pub widening-to : (turn radius length knots : ℕ) (lanes : Lanes) → turn ≤ 255 → knots ≤ 255 → LongEnough radius length
+    → wideningOf turn radius length knots lanes ≤ 4134 * length
+widening-to turn radius length knots lanes t k e =
+    let ship = 1143 * turn * (knots * knots) * laneCount lanes in
+    let scaled = up (ship * (length * length)) 305750000 in
+    rw (← widening-is turn radius length knots lanes (laneCount lanes) scaled (e .some) refl refl)
+    (widening-within ship length scaled (ship-within turn knots (laneCount lanes) t k (lanes-within lanes)) refl radius e)

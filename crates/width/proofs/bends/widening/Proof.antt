@@ -4,7 +4,8 @@ use native.Mathlib.Nat.{mul-le-mul}
 use native.Mathlib.Omega.{arith}
 use borrow.Author.Needs.{needs}
 use Rattle.laws.specs.Rounding.{up}
-use Rattle.width.proofs.bends.Products.{lanes-within, square-within, turned-within, ship-within, scaled-within, widening-within, widening-is}
+use Rattle.lanes.proofs.Promises.{lanes-within}
+use Rattle.width.proofs.bends.Products.{square-within, turned-within, ship-within, scaled-within, widening-within, widening-is}
 use Rattle.width.proofs.bends.widening.Statement.{statement}
 use Rattle.width.proofs.bends.widening.Tie as tie
 
