@@ -1,6 +1,6 @@
 """What the tests share that ask the prover about wrong programs: the copy of the tree, a command run in it, the edits
 and the first error. They run in the repository's root."""
-import glob, os, re, shutil, signal, subprocess
+import glob, os, re, shutil, signal, subprocess, threading
 
 
 def read(file):
@@ -53,6 +53,9 @@ def make_copy(tree, folders, files):
             shutil.copytree(f"target/{part}", f"{tree}/target/{part}")
 
 
+starting, sessions = threading.Lock(), set()
+
+
 def end(session):
     """Ends the processes of a session that a command was given, one by one: some of them leave its group."""
     for process in map(int, filter(str.isdigit, os.listdir("/proc"))):
@@ -65,15 +68,27 @@ def end(session):
 
 def run(words, tree, limit, **environment):
     """The status and the output of a command in a copy; no status where it took too long."""
-    started = subprocess.Popen(words, cwd=tree, stdin=subprocess.DEVNULL, stdout=subprocess.PIPE,
-                               stderr=subprocess.STDOUT, start_new_session=True,
-                               env=dict(os.environ, RT_JOBS="1", RT_CUT="0", **environment))
+    with starting:
+        started = subprocess.Popen(words, cwd=tree, stdin=subprocess.DEVNULL, stdout=subprocess.PIPE,
+                                   stderr=subprocess.STDOUT, start_new_session=True,
+                                   env=dict(os.environ, RT_JOBS="1", RT_CUT="0", **environment))
+        sessions.add(started.pid)
     try:
         output = started.communicate(timeout=limit)[0]
         return started.returncode, output.decode(errors="replace")
     except subprocess.TimeoutExpired:
         end(started.pid)
         return None, started.communicate()[0].decode(errors="replace")
+    finally:
+        sessions.discard(started.pid)
+
+
+def stop_all(*_):
+    """Where a signal ends a test whose commands other threads run: nothing starts any more, and what runs ends with it."""
+    starting.acquire()
+    for session in list(sessions):
+        end(session)
+    os._exit(1)
 
 
 # ---- the prover's words

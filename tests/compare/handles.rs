@@ -13,7 +13,6 @@ pub enum Handle {
     Depth,
     Worksheet,
     Plans,
-    Items,
     Width,
     Bend,
     MakeSheet,

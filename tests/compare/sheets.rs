@@ -156,7 +156,7 @@ fn write_both(
     report: &mut Report,
     good: [i64; FIELDS],
     set: Option<(usize, i64)>,
-    room: usize,
+    space: usize,
 ) {
     let mut figures = good;
     let mut handed: Vec<u32> = good.iter().map(|&figure| figure as u32).collect();
@@ -166,13 +166,13 @@ fn write_both(
         let shift = if field == 6 { 10_000 } else { 0 };
         handed.extend([field as u32, (figure + shift) as u32]);
     }
-    let before: Vec<u8> = (0..room).map(|k| (k * 37 + 11) as u8).collect();
+    let before: Vec<u8> = (0..space).map(|k| (k * 37 + 11) as u8).collect();
     let mut proved_place = before.clone();
     let proved = handles.call(Handle::WriteSheet, &bytes_of(&handed), &mut proved_place);
     let mut second_place = before;
     let second = sheet::write(&Sheet { figures }, &mut second_place).map_or_else(told, |()| 0);
     report.case((proved, proved_place), (second, second_place), || {
-        format!("{figures:?} into {room} bytes")
+        format!("{figures:?} into {space} bytes")
     });
 }
 
@@ -182,8 +182,8 @@ pub fn writing() {
     let mut rng = Random::new(2);
     for _ in 0..100 {
         let figures = random::valid_sheet(&mut rng);
-        for room in 0..=64 {
-            write_both(&mut handles, &mut report, figures, None, room);
+        for space in 0..=64 {
+            write_both(&mut handles, &mut report, figures, None, space);
         }
         for (field, held) in SET {
             let row = &TABLE[field - 1];
@@ -202,8 +202,8 @@ pub fn writing() {
         let (field, held) = rng.pick(&SET);
         let least = if field == 6 { -10_000 } else { 0 };
         let set = (rng.below(3) == 0).then(|| (field, rng.between(least, held)));
-        let room = rng.pick(&[27, 28, 29, 40]);
-        write_both(&mut handles, &mut report, figures, set, room);
+        let space = rng.pick(&[27, 28, 29, 40]);
+        write_both(&mut handles, &mut report, figures, set, space);
     }
     report.end();
 }

@@ -54,32 +54,36 @@ fn items_by_second(sheet: &Sheet, lanes: i64, s: i64) -> (u32, Vec<i64>) {
     }
 }
 
-fn items_by_proved(handles: &mut Handles, sheet: &Sheet, lanes: i64, s: i64) -> (u32, Vec<i64>) {
-    let mut place = [0; 48];
-    let number = handles.call(Handle::Items, &figures(sheet, lanes, s), &mut place);
+/// The number with the items, and with the width and the two classes.
+type Found = [(u32, Vec<i64>); 2];
+
+fn by_proved(handles: &mut Handles, sheet: &Sheet, lanes: i64, s: i64) -> Found {
+    let mut place = [0; 60];
+    let number = handles.call(Handle::Width, &figures(sheet, lanes, s), &mut place);
     let mut items: Vec<i64> = numbers_of(&place).into_iter().map(i64::from).collect();
+    let width = items.split_off(12);
     if lanes == 1 {
         items[10] = 0;
         items[11] = 0;
     }
-    (number, items)
+    [(number, items), (number, width)]
+}
+
+fn width_by_second(sheet: &Sheet, lanes: i64, s: i64) -> (u32, Vec<i64>) {
+    match width::width(sheet, lanes, s) {
+        Err(number) => (number, vec![0; 3]),
+        Ok(cm) => {
+            let classes = [class::width_class(cm, lanes), class::depth_class(s)];
+            (0, vec![cm, classes[0] as i64, classes[1] as i64])
+        }
+    }
 }
 
 fn width_both(handles: &mut Handles, report: &mut Report, sheet: &Sheet, lanes: i64, s: i64) {
     let shown = || format!("{:?}, {lanes} lanes, s {s}", sheet.figures);
-    let proved = items_by_proved(handles, sheet, lanes, s);
-    report.case(proved, items_by_second(sheet, lanes, s), shown);
-    let mut place = [0; 12];
-    let number = handles.call(Handle::Width, &figures(sheet, lanes, s), &mut place);
-    let proved = (number, numbers_of(&place));
-    let second = match width::width(sheet, lanes, s) {
-        Err(number) => (number, vec![0; 3]),
-        Ok(cm) => {
-            let classes = [class::width_class(cm, lanes), class::depth_class(s)];
-            (0, vec![cm as u32, classes[0] as u32, classes[1] as u32])
-        }
-    };
-    report.case(proved, second, shown);
+    let [items, width] = by_proved(handles, sheet, lanes, s);
+    report.case(items, items_by_second(sheet, lanes, s), shown);
+    report.case(width, width_by_second(sheet, lanes, s), shown);
 }
 
 fn bend_both(handles: &mut Handles, report: &mut Report, sheet: &Sheet, lanes: i64) {
@@ -150,7 +154,7 @@ fn at_each_limit(handles: &mut Handles, report: &mut Report, rng: &mut Random) {
     }
 }
 
-/// The items of every number that a band's type holds, past the sheet's ranges too.
+/// The items and the width of every number that a band's type holds, past the sheet's ranges too.
 fn every_number(handles: &mut Handles, report: &mut Report, rng: &mut Random) {
     for water in 0..=1 {
         for speed in [7, 8] {
@@ -164,10 +168,7 @@ fn every_number(handles: &mut Handles, report: &mut Report, rng: &mut Random) {
                 let s = some_s(rng, sheet.draft());
                 for figure in 0..=last {
                     let sheet = changed(&sheet, field, figure);
-                    let proved = items_by_proved(handles, &sheet, 2, s);
-                    report.case(proved, items_by_second(&sheet, 2, s), || {
-                        format!("{:?}, s {s}", sheet.figures)
-                    });
+                    width_both(handles, report, &sheet, 2, s);
                 }
             }
         }
@@ -175,7 +176,7 @@ fn every_number(handles: &mut Handles, report: &mut Report, rng: &mut Random) {
 }
 
 pub fn widths() {
-    let mut report = Report::new("widths", 850_000);
+    let mut report = Report::new("widths", 1_100_000);
     let mut handles = Handles::start();
     let mut rng = Random::new(6);
     for _ in 0..20 {

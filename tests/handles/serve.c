@@ -7,10 +7,10 @@
 #include <stdlib.h>
 #include <string.h>
 
-typedef uint32_t call(const void *input, size_t count, void *place, size_t room);
+typedef uint32_t call(const void *input, size_t count, void *place, size_t space);
 
-extern call trial_read, trial_write, trial_add, trial_level, trial_depth, trial_worksheet, trial_items, trial_width, trial_bend, trial_make, trial_classes;
-extern uint32_t trial_design(const uint8_t *sheet, size_t length, const uint32_t *table, size_t slots, int32_t *place, size_t room);
+extern call trial_read, trial_write, trial_add, trial_level, trial_depth, trial_worksheet, trial_width, trial_bend, trial_make, trial_classes;
+extern uint32_t trial_design(const uint8_t *sheet, size_t length, const uint32_t *table, size_t slots, int32_t *place, size_t space);
 
 /* A plan's part of the place: what the call returned, and the bytes that it is lent with bytes behind them. */
 enum { RETURNED = 4, PART = RETURNED + 96 };
@@ -20,11 +20,11 @@ static const void *lent(const void *at, size_t length) { return length ? at : NU
 
 /* Many plans in one request, since a round trip costs more than a plan. Each case of the input is the sheet's length,
    the length of the place and the sheet. Returns how many were done. */
-static uint32_t plans(const void *input, size_t count, void *place, size_t room) {
+static uint32_t plans(const void *input, size_t count, void *place, size_t space) {
     const uint8_t *at = input, *end = at + count;
     uint8_t *part = place;
     uint32_t done = 0;
-    for (; end - at >= 2 && room >= PART; done++, part += PART, room -= PART) {
+    for (; end - at >= 2 && space >= PART; done++, part += PART, space -= PART) {
         size_t length = at[0], lent_length = at[1];
         if (length > (size_t)(end - at) - 2 || lent_length > PART - RETURNED)
             break;
@@ -35,12 +35,12 @@ static uint32_t plans(const void *input, size_t count, void *place, size_t room)
     return done;
 }
 
-/* A design's part of the place: what the call returned, and the numbers that it is lent room for. */
+/* A design's part of the place: what the call returned, and the numbers that it is lent space for. */
 enum { NUMBERS = 13, DESIGN = RETURNED + 4 * NUMBERS };
 
 /* Many designs over one table: the count of its slots, the slots, then each sheet's length with the sheet. Returns how
    many were done. */
-static uint32_t designs(const void *input, size_t count, void *place, size_t room) {
+static uint32_t designs(const void *input, size_t count, void *place, size_t space) {
     const uint8_t *at = input, *end = at + count;
     uint8_t *part = place;
     uint32_t slots, done = 0;
@@ -52,7 +52,7 @@ static uint32_t designs(const void *input, size_t count, void *place, size_t roo
         return 0;
     const void *table = lent(at, slots);
     at += 4 * (size_t)slots;
-    for (; end - at >= 1 && room >= DESIGN; done++, part += DESIGN, room -= DESIGN) {
+    for (; end - at >= 1 && space >= DESIGN; done++, part += DESIGN, space -= DESIGN) {
         size_t length = at[0];
         if (length > (size_t)(end - at) - 1)
             break;
@@ -77,7 +77,6 @@ static const struct handle handles[] = {
     {trial_depth, 4, 4},
     {trial_worksheet, 4, 4},
     {plans, 1, 1},
-    {trial_items, 4, 4},
     {trial_width, 4, 4},
     {trial_bend, 4, 4},
     {trial_make, 4, 4},
@@ -108,12 +107,12 @@ int main(void) {
         if (number >= sizeof handles / sizeof *handles)
             return 2;
         const struct handle *handle = &handles[number];
-        uint32_t length, room;
+        uint32_t length, space;
         unsigned char *input = taken(&length);
-        unsigned char *place = taken(&room);
-        uint32_t result = handle->function(input, length / handle->input, place, room / handle->place);
+        unsigned char *place = taken(&space);
+        uint32_t result = handle->function(input, length / handle->input, place, space / handle->place);
         give(&result, 4);
-        give(place, room);
+        give(place, space);
         fflush(stdout);
         free(input);
         free(place);

@@ -23,26 +23,25 @@ fn stretch_of(figures: &[u32]) -> Stretch {
     }
 }
 
-fn store(place: &mut [u32], at: usize, figure: u64) {
-    places::put(place, at, (figure % 4294967296) as u32);
-}
-
 // 0, cut, sailing depth and columns; or the number of its reason.
 #[no_mangle]
 pub extern "C" fn trial_depth(figures: &[u32], place: &mut [u32]) -> u32 {
     let answer = depth::work_depth(stretch_of(figures));
     match answer {
         Depth::Cut(found) => {
-            store(&mut *place, 0, found.cut.0 as u64);
-            store(&mut *place, 1, found.sailing.0 as u64);
-            store(&mut *place, 2, found.columns as u64);
+            let numbers = [
+                found.cut.0 as u32,
+                found.sailing.0 as u32,
+                found.columns as u32,
+            ];
+            places::store(&numbers, place, 0);
             0
         }
         Depth::NoCut(fault) => depth::depth_fault_number(fault) as u32,
     }
 }
 
-fn column_figure(column: Column) -> u64 {
+fn column_figure(column: Column) -> u32 {
     match column {
         Column::A => 0,
         Column::B => 1,
@@ -50,17 +49,17 @@ fn column_figure(column: Column) -> u64 {
     }
 }
 
-fn store_try(place: &mut [u32], at: usize, tried: Try) {
+fn line_of(tried: Try) -> [u32; 6] {
     let column = tried.column;
     let falls_in = tried.falls_in;
-    if at < 1000 {
-        store(&mut *place, at, column_figure(column));
-        store(&mut *place, at + 1, tried.squat as u64);
-        store(&mut *place, at + 2, tried.sailing.0);
-        store(&mut *place, at + 3, tried.silt);
-        store(&mut *place, at + 4, tried.figure.0);
-        store(&mut *place, at + 5, column_figure(falls_in));
-    }
+    [
+        column_figure(column),
+        tried.squat as u32,
+        (tried.sailing.0 % 4294967296) as u32,
+        (tried.silt % 4294967296) as u32,
+        (tried.figure.0 % 4294967296) as u32,
+        column_figure(falls_in),
+    ]
 }
 
 // The count of the worksheet's tries, and six figures of each.
@@ -68,8 +67,11 @@ fn store_try(place: &mut [u32], at: usize, tried: Try) {
 pub extern "C" fn trial_worksheet(figures: &[u32], place: &mut [u32]) -> u32 {
     let worksheet = depth::fill_worksheet(stretch_of(figures));
     let tries = worksheet.tries;
-    store_try(&mut *place, 0, tries[0]);
-    store_try(&mut *place, 6, tries[1]);
-    store_try(&mut *place, 12, tries[2]);
+    let first = line_of(tries[0]);
+    let second = line_of(tries[1]);
+    let third = line_of(tries[2]);
+    places::store(&first, &mut *place, 0);
+    places::store(&second, &mut *place, 6);
+    places::store(&third, &mut *place, 12);
     worksheet.count as u32
 }

@@ -2,26 +2,19 @@
 use gauge::Added;
 use gauge::LevelRead;
 
-fn answer_of(added: Added) -> u32 {
-    match added {
-        Added::Counted => 1,
-        Added::Missing => 2,
-        Added::NotAdded(fault) => gauge::add_fault_number(fault) as u32,
-    }
-}
-
-// The answers so far and one more, in one number.
-fn mixed(answers: u32, answer: u32) -> u32 {
-    (answers % 65521 * 31 + answer % 100) % 65521
-}
-
+// The answers, mixed into one number.
 #[no_mangle]
 pub extern "C" fn trial_add(readings: &[i32], table: &mut [u32]) -> u32 {
     let mut answers: u32 = 0;
     let mut i: usize = 0;
     while i < readings.len() {
         let added = gauge::add(&mut *table, readings[i]);
-        answers = mixed(answers, answer_of(added));
+        let answer: u32 = match added {
+            Added::Counted => 1,
+            Added::Missing => 2,
+            Added::NotAdded(fault) => gauge::add_fault_number(fault) as u32,
+        };
+        answers = (answers % 65521 * 31 + answer % 100) % 65521;
         i += 1;
     }
     answers

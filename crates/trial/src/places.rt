@@ -17,8 +17,15 @@ pub fn lanes_of(figure: u32) -> Lanes {
     if figure == 1 { Lanes::One } else { Lanes::Two }
 }
 
-pub fn put(place: &mut [u32], at: usize, figure: u32) {
-    if at < place.len() {
-        place[at] = figure;
+pub fn store(numbers: &[u32], place: &mut [u32], from: usize) {
+    let mut at = from;
+    let mut i: usize = 0;
+    while i < numbers.len() {
+        if place.len() <= at {
+            return;
+        }
+        place[at] = numbers[i];
+        at += 1;
+        i += 1;
     }
 }

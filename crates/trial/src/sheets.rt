@@ -1,6 +1,5 @@
 // Sheets read, made of figures, and written.
 use crate::places;
-use datum::BelowChart;
 use datum::BelowLevel;
 use datum::Level;
 use sheet::COUNT;
@@ -20,34 +19,16 @@ fn array_of(figures: &[u32]) -> [u32; COUNT] {
     f
 }
 
-fn store(f: [u32; COUNT], place: &mut [u32]) {
-    let mut i: usize = 0;
-    while i < COUNT {
-        if place.len() <= i {
-            return;
-        }
-        place[i] = f[i];
-        i += 1;
-    }
-}
-
-// A refusal's number, and a hundred times the field that it names.
-fn told(number: u8, field: u8) -> u32 {
-    number as u32 + 100 * field as u32
-}
-
-// The figures of a sheet into the place and 0, or why there is none.
+// The figures of a sheet into the place and 0; or the refusal's number, and a hundred times the field that it names.
 fn answer_of(answer: SheetRead, place: &mut [u32]) -> u32 {
     match answer {
         SheetRead::Good(sheet) => {
-            store(sheet::figures_of(sheet), place);
+            let figures = sheet::figures_of(sheet);
+            places::store(&figures, place, 0);
             0
         }
         SheetRead::NoSheet(fault) => {
-            told(
-                sheet::read_fault_number(fault),
-                sheet::read_fault_field(fault),
-            )
+            sheet::read_fault_number(fault) as u32 + 100 * sheet::read_fault_field(fault) as u32
         }
     }
 }
@@ -62,19 +43,15 @@ pub extern "C" fn trial_make(figures: &[u32], place: &mut [u32]) -> u32 {
     answer_of(sheet::sheet_from(array_of(figures)), place)
 }
 
-// The bed is handed over plus 10,000: what lies below a level of 100 m.
-fn bed_of(figure: u32) -> BelowChart {
-    datum::datum_depth(BelowLevel((figure % 65536) as u16), Level(10500))
-}
-
-// A sheet with one field set to any figure of its type, by the field's number: one of each type, and one of a pair.
+// A sheet with one field set to any figure of its type, by the field's number: one of each type, and one of a pair. The bed
+// is handed over plus 10,000: what lies below a level of 100 m.
 fn with_figure(good: Sheet, field: u32, figure: u32) -> Sheet {
     let mut sheet = good;
     match field {
         1 => sheet.deadweight = figure,
         2 => sheet.draft = (figure % 65536) as u16,
         5 => sheet.speed = (figure % 256) as u8,
-        6 => sheet.bed = bed_of(figure),
+        6 => sheet.bed = datum::datum_depth(BelowLevel((figure % 65536) as u16), Level(10500)),
         25 => sheet.turn = (figure % 256) as u8,
         _ => {}
     }
@@ -86,10 +63,7 @@ fn written(sheet: Sheet, place: &mut [u8]) -> u32 {
     match answer {
         SheetWritten::Done => 0,
         SheetWritten::NotWritten(fault) => {
-            told(
-                sheet::write_fault_number(fault),
-                sheet::write_fault_field(fault),
-            )
+            sheet::write_fault_number(fault) as u32 + 100 * sheet::write_fault_field(fault) as u32
         }
     }
 }

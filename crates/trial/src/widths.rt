@@ -5,7 +5,6 @@ use datum::BelowLevel;
 use datum::CrossCurrent;
 use width::Bend;
 use width::EntriesFound;
-use width::Items;
 use width::Stretch;
 use width::WidthFault;
 
@@ -40,57 +39,46 @@ fn stretch_of(figures: &[u32]) -> Stretch {
     }
 }
 
-fn item_at(items: Items, k: usize) -> u8 {
-    match k {
-        0 => items.lane,
-        1 => items.wind,
-        2 => items.cross,
-        3 => items.along,
-        4 => items.wave,
-        5 => items.aids,
-        6 => items.bed,
-        7 => items.depth,
-        8 => items.cargo,
-        9 => items.banks,
-        10 => items.passing,
-        _ => items.traffic,
-    }
+// Six items at a time: the search for a proof gives up in a function of all twelve.
+fn six(a: u8, b: u8, c: u8, d: u8, e: u8, f: u8) -> [u32; 6] {
+    [a as u32, b as u32, c as u32, d as u32, e as u32, f as u32]
 }
 
-fn store_items(place: &mut [u32], items: Items) {
-    let mut k: usize = 0;
-    while k < 12 {
-        places::put(&mut *place, k, item_at(items, k) as u32);
-        k += 1;
-    }
-}
-
-// The items into the place; 0, or 8.
-#[no_mangle]
-pub extern "C" fn trial_items(figures: &[u32], place: &mut [u32]) -> u32 {
-    let found = entries_of(figures);
-    match found {
-        EntriesFound::Entered(entries) => {
-            store_items(place, width::items_of(stretch_of(figures), entries));
-            0
-        }
-        EntriesFound::NoEntry => width::width_fault_number(WidthFault::NoWidthEntry) as u32,
-    }
-}
-
-// The width and its class into the place; 0, or 8.
+// The twelve items, the width and the two classes into the place; 0, or 8.
 #[no_mangle]
 pub extern "C" fn trial_width(figures: &[u32], place: &mut [u32]) -> u32 {
-    let stretch = stretch_of(figures);
-    let lanes = stretch.lanes;
-    let sailing = stretch.sailing;
     let found = entries_of(figures);
     match found {
         EntriesFound::Entered(entries) => {
+            let stretch = stretch_of(figures);
+            let lanes = stretch.lanes;
+            let sailing = stretch.sailing;
+            let items = width::items_of(stretch, entries);
+            let first = six(
+                items.lane,
+                items.wind,
+                items.cross,
+                items.along,
+                items.wave,
+                items.aids,
+            );
+            let rest = six(
+                items.bed,
+                items.depth,
+                items.cargo,
+                items.banks,
+                items.passing,
+                items.traffic,
+            );
             let cm = width::width_of(stretch, entries);
-            places::put(&mut *place, 0, cm);
-            places::put(&mut *place, 1, class::width_class(cm, lanes) as u32);
-            places::put(&mut *place, 2, class::depth_class(sailing) as u32);
+            let found = [
+                cm,
+                class::width_class(cm, lanes) as u32,
+                class::depth_class(sailing) as u32,
+            ];
+            places::store(&first, &mut *place, 0);
+            places::store(&rest, &mut *place, 6);
+            places::store(&found, &mut *place, 12);
             0
         }
         EntriesFound::NoEntry => width::width_fault_number(WidthFault::NoWidthEntry) as u32,
@@ -108,16 +96,14 @@ pub extern "C" fn trial_bend(figures: &[u32], place: &mut [u32]) -> u32 {
         places::small_at(figures, 3),
         lanes,
     );
-    places::put(
-        &mut *place,
-        1,
-        class::ship_class(places::figure_at(figures, 5)) as u32,
-    );
+    let ship = class::ship_class(places::figure_at(figures, 5)) as u32;
+    let widening = match bend {
+        Bend::Widening(cm) => cm,
+        Bend::TooTight => 0,
+    };
+    places::store(&[widening, ship], place, 0);
     match bend {
-        Bend::Widening(cm) => {
-            places::put(&mut *place, 0, cm);
-            0
-        }
+        Bend::Widening(_) => 0,
         Bend::TooTight => width::width_fault_number(WidthFault::BendTooTight) as u32,
     }
 }
@@ -133,8 +119,11 @@ pub extern "C" fn trial_classes(figures: &[u32], place: &mut [u32]) -> u32 {
         lanes,
         sailing,
     );
-    places::put(&mut *place, 0, classes.ship as u32);
-    places::put(&mut *place, 1, classes.width as u32);
-    places::put(&mut *place, 2, classes.depth as u32);
+    let numbers = [
+        classes.ship as u32,
+        classes.width as u32,
+        classes.depth as u32,
+    ];
+    places::store(&numbers, place, 0);
     0
 }
