@@ -7,4 +7,5 @@ mod Printing
 mod Inputs
 mod Whole
 mod Routes
+mod Starred
 pub mod Promises

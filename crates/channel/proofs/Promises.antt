@@ -9,22 +9,26 @@ use native.Mathlib.Nat.{zero-add}
 use native.Mathlib.Omega.{arith}
 use lib.ListN.{length, take, drop}
 use Rattle.laws.specs.Rounding.{up}
+use Rattle.sheet.specs.CaseS.{sheetS}
 use Rattle.class.specs.Classes.{routeClass}
 use Rattle.gauge.specs.declared.LevelRead.{LevelRead}
 use Rattle.record.specs.Counting.{greatest}
 use Rattle.lines.specs.Lines.{lineBytes}
 use Rattle.design.specs.Design.{designAt}
 use Rattle.design.specs.Numbers.{codeOf}
+use Rattle.design.specs.Starred.{writing}
 use Rattle.design.proofs.Promises.{other-length-one}
 use Rattle.channel.specs.Input.{Input, inputOf, Came}
 use Rattle.channel.specs.Output.{Lines, standing, withLines, written}
 use Rattle.channel.specs.Route.{noSheets}
 use Rattle.channel.specs.Text.{sheetsOf, routeAfter, shipsOfAll, howManyAnswered, linesOf, printed}
 use Rattle.channel.specs.Printing.{fileBlock, inputBlock, TextPrinted}
+use Rattle.channel.specs.Starred.{textOfS}
 use Rattle.channel.specs.declared.Text.{Text}
 use Rattle.channel.proofs.Lines.{all-lines}
 use Rattle.channel.proofs.Cuts.{next-sheet, no-sheet, in-two, joined, how-many}
 use Rattle.channel.proofs.Routes as the-route
+use Rattle.channel.proofs.Starred.{sample}
 
 -- Whatever blocks the record and the sheets came in, the text is that of the record and the sheets: where the program came to its end, there are
 -- the blocks that it read, each to its end, and what was written, with the rest in the buffer, is what is printed of their bytes.
@@ -75,3 +79,7 @@ module _ (level : LevelRead) where
     -- and the smallest ship class of those.
     pub route-class : routeAfter level noSheets sheets .class ≡ routeClass (shipsOfAll level sheets)
     route-class = the-route.smallest-class level sheets noSheets
+
+-- The definition's sample, to the byte: case S, and no file.
+pub starred-text : printed [] (writing sheetS) ≡ textOfS
+starred-text = sample

@@ -4,3 +4,4 @@ pub mod Output
 pub mod Route
 pub mod Text
 pub mod Printing
+pub mod Starred
