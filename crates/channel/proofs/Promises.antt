@@ -1,7 +1,6 @@
 -- What the printing program promises (section 10). `TextPrinted` of specs/Printing.antt is what `print` ensures, and `main` writes the rest that it
 -- leaves; `printed` of specs/Text.antt is the text.
 use mathlib.Core.Path.{_≡_, ap, _∙_}
-use mathlib.Core.Bool.{true}
 use mathlib.Core.List.{List, [], _∷_, _++_, flatten}
 use mathlib.Core.Logic.{_≢_}
 use Prim.Native.Nat.{ℕ, _*_, _≤_, _<_, min}
@@ -24,7 +23,7 @@ use Rattle.channel.specs.Route.{noSheets}
 use Rattle.channel.specs.Text.{sheetsOf, routeAfter, shipsOfAll, howManyAnswered, linesOf, printed}
 use Rattle.channel.specs.Printing.{fileBlock, inputBlock, TextPrinted}
 use Rattle.channel.specs.Starred.{textOfS}
-use Rattle.channel.specs.declared.Text.{Text}
+use Rattle.channel.specs.declared.Text.the-variants.{Whole}
 use Rattle.channel.proofs.Lines.{all-lines}
 use Rattle.channel.proofs.Cuts.{next-sheet, no-sheet, in-two, joined, how-many}
 use Rattle.channel.proofs.Routes as the-route
@@ -32,10 +31,10 @@ use Rattle.channel.proofs.Starred.{sample}
 
 -- Whatever blocks the record and the sheets came in, the text is that of the record and the sheets: where the program came to its end, there are
 -- the blocks that it read, each to its end, and what was written, with the rest in the buffer, is what is printed of their bytes.
-pub text-is-printed : (buffer later : List ℕ) (text : Text) → TextPrinted buffer text later → text .whole ≡ true
+pub text-is-printed : (buffer later : List ℕ) (rest : ℕ) → TextPrinted buffer (Whole rest) later
     → (file : Input) × Came fileBlock file × ((input : Input) × Came inputBlock input
-    × (written (linesOf (inputOf file) (inputOf input)) (record { at = 0; buffer = buffer }) ++ take (text .rest) later ≡ printed (inputOf file) (inputOf input)))
-text-is-printed buffer later text ensured = ensured
+    × (written (linesOf (inputOf file) (inputOf input)) (record { at = 0; buffer = buffer }) ++ take rest later ≡ printed (inputOf file) (inputOf input)))
+text-is-printed buffer later rest ensured = ensured
 
 -- Lines are written in their order, each once, cut into writes anywhere: what was written and what stands in the buffer are what stood there and the lines.
 pub lines-in-order : (lines : List (List ℕ)) (l : Lines) → lineBytes ≤ length (l .buffer)

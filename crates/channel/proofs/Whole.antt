@@ -1,6 +1,5 @@
 -- The whole text: the lines that were put are those of the record, the sheets and the route, so what was written and what stands is the text.
-use mathlib.Core.Path.{_≡_, sym, ap, _∙_}
-use mathlib.Core.Bool.{Bool}
+use mathlib.Core.Path.{_≡_, sym, ap, ap₂, _∙_}
 use mathlib.Core.List.{List, [], _∷_, _++_}
 use Prim.Native.Nat.{ℕ, _≤_}
 use borrow.Author.Tests.{le-leb}
@@ -14,14 +13,12 @@ use Rattle.channel.specs.Input.{ToItsEnd}
 use Rattle.channel.specs.Output.{Lines, standing, withLine, withLines, written}
 use Rattle.channel.specs.Route.{noSheets}
 use Rattle.channel.specs.Text.{sheetsOf, levelOf, countsOf, routeAfter, sheetLines, levelsLineOf, routeLineOf, linesOf, printed}
-use Rattle.channel.specs.Printing.{fileBlock, inputBlock, FileAdded, Progress, progress, atFirst, sheetsPrinted, InputPrinted, RoutePrinted, TextOf}
+use Rattle.channel.specs.Printing.{fileBlock, inputBlock, FileAdded, Progress, progress, atFirst, sheetsPrinted, InputPrinted, RoutePrinted, sheetsAndRoute, LinesPrinted, TextOf, TextPrinted}
+use Rattle.channel.specs.declared.Text.{Text}
+use Rattle.channel.specs.declared.Text.the-variants.{Whole, Cut}
 use Rattle.channel.specs.declared.sheets.State.{State}
 use Rattle.channel.proofs.Blocks.{brought}
 use Rattle.channel.proofs.Lines.{place-kept, line-put, all-lines, lines-in-two}
-
--- the sheets' lines and the route's behind other lines
-abbrev routed : LevelRead → List ℕ → Lines → Lines
-routed level input l = withLine (routeLineOf (routeAfter level noSheets (sheetsOf input))) (withLines (sheetLines level noSheets (sheetsOf input)) l)
 
 module _ (buffer file input : List ℕ) where
   abbrev first : Lines
@@ -29,11 +26,13 @@ module _ (buffer file input : List ℕ) where
 
   -- the record's line, the sheets' lines, the route's line
   abbrev in-turn : Lines
-  in-turn = routed (levelOf file) input (withLine (levelsLineOf (countsOf file)) first)
+  in-turn = sheetsAndRoute (levelOf file) input (withLine (levelsLineOf (countsOf file)) first)
 
   all-in-turn : withLines (linesOf file input) first ≡ in-turn
   unfolding withLines
-  all-in-turn = lines-in-two (sheetLines (levelOf file) noSheets (sheetsOf input)) (routeLineOf (routeAfter (levelOf file) noSheets (sheetsOf input)) ∷ []) (withLine (levelsLineOf (countsOf file)) first)
+  all-in-turn =
+      lines-in-two (sheetLines (levelOf file) noSheets (sheetsOf input)) (routeLineOf (routeAfter (levelOf file) noSheets (sheetsOf input)) ∷ [])
+      (withLine (levelsLineOf (countsOf file)) first)
 
   in-order : lineBytes ≤ length buffer → (l : Lines) → l ≡ in-turn → written (linesOf file input) first ++ standing l ≡ printed file input
   unfolding printed
@@ -45,22 +44,30 @@ module _ (buffer : List ℕ) (space : lineBytes ≤ length buffer) where
   levels-put counts at later =
       line-put (levelsLineOf counts) (record { at = 0; buffer = buffer }) 0 at later (place-kept buffer 0 (le-leb lineBytes (length buffer) space))
 
-  module _ (table : List ℕ) (counts : Counts) (level : LevelRead) (at : ℕ) (after : List ℕ) (state : State) (printed-after : List ℕ) (rest : ℕ) (taken : Bool) (later : List ℕ)
-      (l : level ≡ designLevel table) (a : at ≡ placeAfter (levelsLineOf counts) 0 buffer) (b : after ≡ bufferAfter (levelsLineOf counts) 0 buffer)
-      (r : RoutePrinted state printed-after rest later) where
-    put-in-turn : (file input : List ℕ) → FileAdded emptyTable counts table file → InputPrinted level (atFirst at after) (progress state printed-after) input
-        → _≡_ {A = Lines} (record { at = rest; buffer = later }) (in-turn buffer file input)
-    unfolding sheetsPrinted
-    put-in-turn file input f i =
-        r
-        ∙ ap (λ (p : Progress). withLine (routeLineOf (p .route)) (p .lines)) i
-        ∙ ap (λ (at-level : LevelRead). routed at-level input (record { at = at; buffer = after })) (l ∙ ap designLevel (f .added))
-        ∙ ap (routed (levelOf file) input) (levels-put counts at after a b ∙ ap (λ (counted : Counts). withLine (levelsLineOf counted) (record { at = 0; buffer = buffer })) (f .counted))
+  -- the three parts, one behind the other
+  pub lines-put : (level : LevelRead) (counts : Counts) (at : ℕ) (after : List ℕ) (state : State) (printed-after : List ℕ) (rest : ℕ) (later : List ℕ)
+      → at ≡ placeAfter (levelsLineOf counts) 0 buffer → after ≡ bufferAfter (levelsLineOf counts) 0 buffer
+      → ToItsEnd inputBlock (InputPrinted level (atFirst at after) (progress state printed-after)) → RoutePrinted state printed-after rest later
+      → LinesPrinted level counts buffer (Whole rest) later
+  unfolding sheetsPrinted
+  lines-put level counts at after state printed-after rest later a b came r =
+      brought inputBlock (InputPrinted level (atFirst at after) (progress state printed-after))
+      (λ (input : List ℕ). _≡_ {A = Lines} (record { at = rest; buffer = later }) (sheetsAndRoute level input (withLine (levelsLineOf counts) (record { at = 0; buffer = buffer }))))
+      (λ input i. r ∙ ap (λ (p : Progress). withLine (routeLineOf (p .route)) (p .lines)) i ∙ ap (sheetsAndRoute level input) (levels-put counts at after a b))
+      came
 
-    pub text-whole : ToItsEnd fileBlock (FileAdded emptyTable counts table) → ToItsEnd inputBlock (InputPrinted level (atFirst at after) (progress state printed-after))
-        → ToItsEnd fileBlock (λ (file : List ℕ). ToItsEnd inputBlock (TextOf buffer (record { rest = rest; whole = taken }) later file))
-    text-whole read came =
-        brought fileBlock (FileAdded emptyTable counts table) (λ (file : List ℕ). ToItsEnd inputBlock (TextOf buffer (record { rest = rest; whole = taken }) later file))
-        (λ file f. brought inputBlock (InputPrinted level (atFirst at after) (progress state printed-after)) (TextOf buffer (record { rest = rest; whole = taken }) later file)
-        (λ input i. in-order buffer file input space (record { at = rest; buffer = later }) (put-in-turn file input f i)) came)
-        read
+  -- over a record
+  pub text-whole : (table : List ℕ) (counts : Counts) (level : LevelRead) (text : Text) (later : List ℕ) → ToItsEnd fileBlock (FileAdded emptyTable counts table)
+      → level ≡ designLevel table → LinesPrinted level counts buffer text later → TextPrinted buffer text later
+  text-whole table counts level Cut later read l lines = tt
+  text-whole table counts level (Whole rest) later read l lines =
+      brought fileBlock (FileAdded emptyTable counts table) (λ (file : List ℕ). ToItsEnd inputBlock (TextOf buffer rest later file))
+      (λ file f. brought inputBlock
+      (λ (input : List ℕ). _≡_ {A = Lines} (record { at = rest; buffer = later }) (sheetsAndRoute level input (withLine (levelsLineOf counts) (record { at = 0; buffer = buffer }))))
+      (TextOf buffer rest later file)
+      (λ input put. in-order buffer file input space (record { at = rest; buffer = later })
+      (put
+      ∙ ap₂ (λ (at-level : LevelRead) (counted : Counts). sheetsAndRoute at-level input (withLine (levelsLineOf counted) (record { at = 0; buffer = buffer })))
+      (l ∙ ap designLevel (f .added)) (f .counted)))
+      lines)
+      read
