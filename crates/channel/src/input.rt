@@ -1,7 +1,7 @@
 // Reading a file or a pipe in blocks: a short read, a slow writer or an interrupted call changes nothing.
 ghost use mathlib.Core.Path.{_≡_};
 ghost use mathlib.Core.Bool.{false};
-ghost use Prim.Native.Nat.{_-_, _≤_};
+ghost use Prim.Native.Nat.{_-_, _<_};
 ghost use lib.ListN.{length, take};
 ghost use Rattle.laws.specs.Choice.{if_then_else_};
 ghost use Rattle.channel.specs.Input.{GotWithin, Filling};
@@ -37,9 +37,9 @@ fn got_of(answer: isize, most: usize) -> Got
     Got::Bytes(count)
 }
 
-// One read into what is left of a space; what it has stays.
+// One read into what is left of a space, which is some, so that no byte means the end; what the space has stays.
 fn read_some(fd: i32, space: &mut [u8], have: usize) -> Got
-    requires { ⌜ have ≤ length (now space) ⌝ }
+    requires { ⌜ have < length (now space) ⌝ }
     ensures { λ r. ⌜ GotWithin r (length (now (space .entry)) - have) ⌝ }
     ensures { λ r. ⌜ take have (now (space .exit)) ≡ take have (now (space .entry)) ⌝ }
 {

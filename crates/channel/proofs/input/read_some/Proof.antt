@@ -1,4 +1,5 @@
 -- `channel::input::read_some` meets its contract: the read is lent only what lies behind what it has.
+use native.Mathlib.Omega.{arith}
 use denote.Ref.{now}
 use lib.ListN.{take}
 use lib.Seq.{take-at, length-take-le}
@@ -10,7 +11,7 @@ returns : tie.Need-returns
 returns c =
     let start = c .before .before .before .before .before .before in
     let space = now (start .args .space) in
-    (c .got-of .ensures, take-at (take (start .args .have) space) _ (start .args .have) (length-take-le (start .args .have) space (start .pre)))
+    (c .got-of .ensures, take-at (take (start .args .have) space) _ (start .args .have) (length-take-le (start .args .have) space (omega (arith, start .pre))))
 
 pub read-some-spec : {M : Type 1} → statement M
 read-some-spec =
