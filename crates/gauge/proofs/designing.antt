@@ -1,6 +1,5 @@
--- The levels of frequencies and the design level: the walks that find them, the ways out, and what they mean.
+-- The levels of frequencies and the design level: the walks that find them, and what they mean.
 pub mod Frequencies
 pub mod Walks
 pub mod Bands
-pub mod WaysOut
 pub mod Meaning
