@@ -14,15 +14,10 @@ slice-write-buffer-2 c =
 same-length : tie.Need-same-length
 same-length c =
     let a = c .before .before .before .before .before .args in
-    let p = c .before .before .put-counts in
     simp length-set (omega (arith, length-set (a .buffer .now) (a .at) (a .letter)))
 
 returns : tie.Need-returns
-returns c =
-    let a = c .before .before .before .before .before .args in
-    let p = c .before .before .put-counts in
-    then-byte (a .buffer .now) (a .at) _ _ (p .result) 10 (omega arith)
-    (byte-then (a .buffer .now) (a .at) (a .letter) _ _ (p .result) (omega arith) (p .ensures .0))
+returns c = then-byte 10 (byte-then (c .before .before .put-counts .ensures .0) (omega arith)) (omega arith)
 
 pub put-letter-line-spec : {M : Type 1} → statement M
 put-letter-line-spec =

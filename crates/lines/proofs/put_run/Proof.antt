@@ -28,7 +28,7 @@ loop-holds : tie.Need-loop-holds Inv-loop μ-loop
 loop-holds c =
     let a = c .before .args in
     let none : a .from - a .from ≡ 0 = omega arith in
-    (omega arith, c .before .pre .0, search needs, refl, omega arith, rw none (no-words numberText (drop (a .from) (a .t1)) (a .buffer .now) (a .at)))
+    (omega arith, c .before .pre .0, search needs, refl, omega arith, rw none (no-words numberText (drop (a .from) (a .t1))))
 
 loop-again : tie.Need-loop-again Inv-loop μ-loop
 loop-again c =
@@ -46,12 +46,9 @@ loop-again c =
       omega (arith, length-set (l .buffer) (l .end) 32),
       omega arith,
       rw next
-          (next-word numberText (drop (a .from) (a .t1)) (a .buffer .now) (a .at) (l .i - a .from) (pos 0) (l .buffer) _ (l .end) _
-          (omega (arith, length-drop (a .from) (a .t1))) (omega arith) (l .inv .5) (rw same (rw read-back at (p .ensures .0)))),
+          (next-word numberText (drop (a .from) (a .t1)) (l .i - a .from) (pos 0) (l .inv .5) (rw same (rw read-back at (p .ensures .0)))
+          (omega (arith, length-drop (a .from) (a .t1))) (omega arith)),
     )
-
-same-length : tie.Need-same-length Inv-loop μ-loop
-same-length c = c .before .loop .inv .3
 
 returns : tie.Need-returns Inv-loop μ-loop
 returns c =
@@ -75,5 +72,5 @@ put-run-spec =
     (λ c. omega arith)
     (λ c. omega arith)
     loop-again
-    same-length
+    (λ c. c .before .loop .inv .3)
     returns)

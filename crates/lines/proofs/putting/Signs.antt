@@ -8,7 +8,8 @@ use borrow.Author.Tests.{ltb-true}
 use lib.IntN.{ℤ, pos, negsuc, natAbs}
 use lib.Signed.{ltZ}
 use mir.Syntax.{w32}
-use mir.Val.{SFits}
+use mir.Val.{SFits, toZ, ofZ}
+use mir.Facts.{toZ-ofZ}
 use lib.ListN.{length, set}
 use Rattle.laws.proofs.Never.{never}
 use Rattle.lines.specs.Decimals.{minus, countText, numberText}
@@ -34,13 +35,16 @@ unfolding numberText
 plain-text (pos n) t = refl
 plain-text (negsuc n) t = never cc
 
--- a number put with its sign and without one
-module _ (z : ℤ) (fit : SFits w32 z) (buffer : List ℕ) (at : ℕ) (later : List ℕ) (end : ℕ) where
-  pub put-negative : ltZ z (pos 0) ≡ true → at < length buffer → Put (set buffer at minus) (at + 1) (countText (natAbs z)) later end
+-- a number put with its sign and without one; the code has it as it is read off its bits, and m is that without its sign
+module _ {z : ℤ} (fit : SFits w32 z) {buffer later : List ℕ} {at end m : ℕ} (size : m ≡ natAbs (toZ w32 (ofZ w32 z))) where
+  pub put-negative : ltZ (toZ w32 (ofZ w32 z)) (pos 0) ≡ true → Put (set buffer at minus) (at + 1) (countText m) later end → at < length buffer
       → Put buffer at (numberText z) later end × (end ≤ at + 11)
-  put-negative t h p =
-      (rw (negative-text z t) (byte-then buffer at minus (countText (natAbs z)) later end h p), omega (arith, p .after, number-at-most z fit))
+  put-negative t p h =
+      let q = rw (size, toZ-ofZ fit) at p in
+      (rw (negative-text z (rw (toZ-ofZ fit) at t)) (byte-then q h), omega (arith, number-at-most z fit))
 
-  pub put-plain : ltZ z (pos 0) ≡ false → Put buffer at (countText (natAbs z)) later end
+  pub put-plain : ltZ (toZ w32 (ofZ w32 z)) (pos 0) ≡ false → Put buffer at (countText m) later end
       → Put buffer at (numberText z) later end × (end ≤ at + 11)
-  put-plain t p = (rw (plain-text z t) p, omega (arith, p .after, number-at-most z fit))
+  put-plain t p =
+      let q = rw (size, toZ-ofZ fit) at p in
+      (rw (plain-text z (rw (toZ-ofZ fit) at t)) q, omega (arith, number-at-most z fit))
