@@ -17,17 +17,11 @@ Inv-loop count buffer₀ at end place₀ rest₀ buffer place rest =
 abbrev μ-loop : tie.MeasureT-loop
 μ-loop count buffer₀ at end place₀ rest₀ buffer place rest = rest
 
-add-end : tie.Need-add-end Inv-loop μ-loop
-add-end c = omega (arith, places-at-most 19 (c .before .before .args .count) (omega arith))
-
 loop-holds : tie.Need-loop-holds Inv-loop μ-loop
 loop-holds c =
     let a = c .before .before .args in
     let small = places-at-most 19 (a .count) (omega arith) in
     (refl, omega arith, omega arith, none-stands (a .buffer .now) (a .at) (a .count) _ (omega arith))
-
-sub-place : tie.Need-sub-place Inv-loop μ-loop
-sub-place c = omega (arith, places-some (c .before .loop .rest))
 
 loop-again : tie.Need-loop-again Inv-loop μ-loop
 loop-again c =
@@ -44,9 +38,9 @@ put-long-count-spec =
     Inv-loop
     μ-loop
     (λ c κs. search needs)
-    add-end
+    (λ c. omega (arith, places-at-most 19 (c .before .before .args .count) (omega arith)))
     loop-holds
-    sub-place
+    (λ c. omega (arith, places-some (c .before .loop .rest)))
     (λ c. omega arith)
     (λ c. omega arith)
     (λ c. omega arith)

@@ -6,11 +6,6 @@ use borrow.Author.Needs.{needs}
 use Rattle.lines.proofs.put_number.Statement.{statement}
 use Rattle.lines.proofs.put_number.Tie as tie
 
-same-length : tie.Need-same-length
-same-length c =
-    let a = c .before .before .before .before .before .before .before .args in
-    omega (arith, length-set (a .buffer .now) (a .at) 45)
-
 returns : tie.Need-returns
 returns c =
     let g = c .before .before .before .before in
@@ -34,7 +29,7 @@ put-number-spec =
     (λ c κs. search needs)
     (λ c. search needs)
     (λ c κs. simp length-set (omega arith))
-    same-length
+    (λ c. let a = c .before .before .before .before .before .before .before .args in omega (arith, length-set (a .buffer .now) (a .at) 45))
     returns
     (λ c κs. search needs)
     (λ c κs. search needs)
