@@ -53,7 +53,7 @@ module _ {buffer later : List ℕ} {at n end place rest : ℕ} (s : Standing buf
       rw (s .text, count-one rest h) (byte-before (s .holds) (omega arith) within)
 
 -- up to four digits, each in front of those that stand
-module _ (buffer : List ℕ) (at n : ℕ) where
+module _ {buffer : List ℕ} {at n : ℕ} where
   pub two-stand : 10 ≤ n → n < 100 → at + 2 ≤ length buffer
       → Put buffer at (countText n) (set (set buffer (at + 1) (byteOf (n % 10))) at (byteOf (n / 10))) (at + 2)
   two-stand l h within =
