@@ -10,10 +10,6 @@ use Rattle.lines.specs.Lines.{Put}
 use Rattle.lines.proofs.putting.Placing.{put-none, byte-before}
 use Rattle.lines.proofs.decimals.Digits.{digits-one, digits-more, places-at-most, places-more, places-one}
 
-pub count-length : (n : ℕ) → length (countText n) ≡ length (digits n)
-unfolding countText
-count-length n = length-map (digits n) byteOf
-
 pub count-one : (n : ℕ) → n < 10 → countText n ≡ byteOf n ∷ []
 unfolding countText
 count-one n h = rw (digits-one n h)
@@ -23,7 +19,8 @@ unfolding countText
 count-more n h = rw (digits-more n h) (map-append byteOf (digits (n / 10)) (n % 10 ∷ []))
 
 pub count-at-most : (k n : ℕ) → n < 10 ^ (k + 1) → length (countText n) ≤ k + 1
-count-at-most k n h = omega (arith, count-length n, places-at-most k n h)
+unfolding countText
+count-at-most k n h = rw (length-map (digits n) byteOf) (places-at-most k n h)
 
 -- the text of n is to stand at a place of the buffer: the digits from place to end stand, and those of rest are still to be put before them
 pub record Standing (buffer : List ℕ) (at n end : ℕ) (later : List ℕ) (place rest : ℕ) : Type 0 where

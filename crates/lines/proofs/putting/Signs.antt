@@ -2,7 +2,7 @@
 use mathlib.Core.Path.{_≡_, refl}
 use mathlib.Core.Bool.{true, false}
 use mathlib.Core.List.{List, _∷_}
-use Prim.Native.Nat.{ℕ, _+_, _≤_, _<_}
+use Prim.Native.Nat.{ℕ, suc, _+_, _≤_, _<_}
 use native.Mathlib.Omega.{arith}
 use borrow.Author.Tests.{ltb-true}
 use lib.IntN.{ℤ, pos, negsuc, natAbs}
@@ -17,20 +17,18 @@ use Rattle.lines.specs.Lines.{Put}
 use Rattle.lines.proofs.putting.Counting.{count-at-most}
 use Rattle.lines.proofs.putting.Placing.{byte-then}
 
--- without its sign a 32-bit number has at most ten digits
-pub size-at-most : (z : ℤ) → SFits w32 z → natAbs z ≤ 2147483648
-size-at-most (pos n) f = omega (arith, f .sfits)
-size-at-most (negsuc n) f = omega (arith, f .sfits)
+-- a 32-bit number has at most ten digits, and a sign
+pub number-at-most : (z : ℤ) → SFits w32 z → length (numberText z) ≤ 11
+unfolding numberText
+number-at-most (pos n) f = omega (arith, count-at-most 9 n (omega (arith, f .sfits)))
+number-at-most (negsuc n) f = omega (arith, count-at-most 9 (suc n) (omega (arith, f .sfits)))
 
-pub number-at-most : (z : ℤ) → SFits w32 z → length (countText (natAbs z)) ≤ 10
-number-at-most z f = count-at-most 9 (natAbs z) (omega (arith, size-at-most z f))
-
-pub negative-text : (z : ℤ) → ltZ z (pos 0) ≡ true → numberText z ≡ minus ∷ countText (natAbs z)
+negative-text : (z : ℤ) → ltZ z (pos 0) ≡ true → numberText z ≡ minus ∷ countText (natAbs z)
 unfolding numberText
 negative-text (pos n) t = let h = ltb-true n 0 t in absurd (omega arith)
 negative-text (negsuc n) t = refl
 
-pub plain-text : (z : ℤ) → ltZ z (pos 0) ≡ false → numberText z ≡ countText (natAbs z)
+plain-text : (z : ℤ) → ltZ z (pos 0) ≡ false → numberText z ≡ countText (natAbs z)
 unfolding numberText
 plain-text (pos n) t = refl
 plain-text (negsuc n) t = never cc
@@ -40,11 +38,11 @@ module _ {z : ℤ} (fit : SFits w32 z) {buffer later : List ℕ} {at end m : ℕ
   pub put-negative : ltZ (toZ w32 (ofZ w32 z)) (pos 0) ≡ true → Put (set buffer at minus) (at + 1) (countText m) later end → at < length buffer
       → Put buffer at (numberText z) later end × (end ≤ at + 11)
   put-negative t p h =
-      let q = rw (size, toZ-ofZ fit) at p in
-      (rw (negative-text z (rw (toZ-ofZ fit) at t)) (byte-then q h), omega (arith, number-at-most z fit))
+      let q : Put buffer at (numberText z) later end = rw (negative-text z (rw (toZ-ofZ fit) at t)) (byte-then (rw (size, toZ-ofZ fit) at p) h) in
+      (q, omega (arith, number-at-most z fit))
 
   pub put-plain : ltZ (toZ w32 (ofZ w32 z)) (pos 0) ≡ false → Put buffer at (countText m) later end
       → Put buffer at (numberText z) later end × (end ≤ at + 11)
   put-plain t p =
-      let q = rw (size, toZ-ofZ fit) at p in
-      (rw (plain-text z (rw (toZ-ofZ fit) at t)) q, omega (arith, number-at-most z fit))
+      let q : Put buffer at (numberText z) later end = rw (plain-text z (rw (toZ-ofZ fit) at t)) (rw (size, toZ-ofZ fit) at p) in
+      (q, omega (arith, number-at-most z fit))

@@ -4,7 +4,7 @@ use mathlib.Core.List.{List, [], _∷_, map}
 use Prim.Native.Nat.{ℕ, _+_, _*_, _^_, _≤_, _<_}
 use native.Mathlib.Nat.{mul-suc}
 use native.Mathlib.Omega.{arith}
-use lib.IntN.{ℤ, pos, negsuc}
+use lib.IntN.{ℤ}
 use lib.ListN.{length, length-append, length-map}
 use mir.Syntax.{w32}
 use mir.Val.{SFits}
@@ -25,16 +25,11 @@ spaced-at-most k (word ∷ words) e =
 count-at-most-20 : (n : ℕ) → n < 2 ^ 64 → length (countText n) ≤ 20
 count-at-most-20 n h = count-at-most 19 n (omega arith)
 
-number-at-most-11 : (z : ℤ) → SFits w32 z → length (numberText z) ≤ 11
-unfolding numberText
-number-at-most-11 (pos n) f = omega (arith, number-at-most (pos n) f)
-number-at-most-11 (negsuc n) f = omega (arith, number-at-most (negsuc n) f)
-
 pub sheet-line-size : (index : ℕ) (numbers : List ℤ) → index < 2 ^ 64 → length numbers ≡ numberCount → Each (SFits w32) numbers
     → length (sheetLine index numbers) ≤ 12 * numberCount + 21
 unfolding sheetLine
 sheet-line-size index numbers h n fit =
-    let each = each-map (SFits w32) (λ (w : List ℕ). length w ≤ 11) numberText number-at-most-11 numbers fit in
+    let each = each-map (SFits w32) (λ (w : List ℕ). length w ≤ 11) numberText number-at-most numbers fit in
     simp length-append (omega (arith, spaced-at-most 11 (map numberText numbers) each, length-map numbers numberText, count-at-most-20 index h))
 
 module _ (a b c : ℕ) (fit-a : a < 2 ^ 64) (fit-b : b < 2 ^ 64) (fit-c : c < 2 ^ 64) where
