@@ -1,6 +1,6 @@
 -- The digits of a number are that number in decimal, and nothing else is. A text has one meaning.
 -- By induction on divisions by ten; digits read behind a number are put behind its digits.
-use mathlib.Core.Path.{_≡_, refl, ap, sym}
+use mathlib.Core.Path.{_≡_, refl, ap, sym, _∙_}
 use mathlib.Core.List.{List, [], _∷_, _++_, append-assoc, append-nil}
 use Prim.Native.Nat.{ℕ, zero, suc, _+_, _*_, _/_, _%_, _<_}
 use native.Mathlib.Omega.{arith}
@@ -27,18 +27,17 @@ digits-each =
     (λ n h. rw (digits-one n h) (h, tt))
     (λ n h e. rw (digits-more n h) (each-append (λ (d : ℕ). d < 10) (digits (n / 10)) (n % 10 ∷ []) e (omega arith, tt)))
 
-first-some : (n : ℕ) → 0 < n → 0 < getD (digits n) 0 0
-first-some =
-    by-tens (λ (n : ℕ). 0 < n → 0 < getD (digits n) 0 0)
-    (λ n h p. rw (digits-one n h) p)
-    (λ n h e p. rw (digits-more n h, List·getD-append (digits (n / 10)) (n % 10 ∷ []) 0 0 (omega (arith, places-some (n / 10)))) (e (omega arith)))
+-- a number from ten on begins as its tenth does, which is not 0
+leading : (n : ℕ) → getD (digits n) 0 0 ≡ 0 → digits n ≡ 0 ∷ []
+leading =
+    by-tens (λ (n : ℕ). getD (digits n) 0 0 ≡ 0 → digits n ≡ 0 ∷ [])
+    (λ n h e. digits-one n h ∙ ap (λ (d : ℕ). d ∷ []) (rw (digits-one n h) at e))
+    (λ n h tenth e.
+    let first = rw (digits-more n h, List·getD-append (digits (n / 10)) (n % 10 ∷ []) 0 0 (omega (arith, places-some (n / 10)))) at e in
+    absurd (omega (arith, digits-value (n / 10), ap valueOf (tenth first))))
 
 pub digits-decimal : (n : ℕ) → Decimal (digits n) n
 digits-decimal n = record { each-a-digit = digits-each n; no-leading-zero = leading n; value = digits-value n }
-  where
-    leading : (n : ℕ) → getD (digits n) 0 0 ≡ 0 → digits n ≡ 0 ∷ []
-    leading zero e = digits-one 0 (omega arith)
-    leading (suc n) e = absurd (omega (arith, first-some (suc n) (omega arith)))
 
 -- digits behind a number that is not 0
 digits-behind : (ds : List ℕ) (read : ℕ) → 0 < read → Each (λ (d : ℕ). d < 10) ds → digits (valueBehind read ds) ≡ digits read ++ ds

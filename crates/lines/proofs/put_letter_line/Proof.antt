@@ -6,9 +6,6 @@ use lib.ListN.{length-set}
 use Rattle.lines.proofs.put_letter_line.Statement.{statement}
 use Rattle.lines.proofs.put_letter_line.Tie as tie
 
-returns : tie.Need-returns
-returns c = then-byte 10 (byte-then (c .before .before .put-counts .ensures .0) (omega arith)) (omega arith)
-
 pub put-letter-line-spec : {M : Type 1} → statement M
 put-letter-line-spec =
     tie.close
@@ -19,4 +16,4 @@ put-letter-line-spec =
     (λ c. let a = c .before .before .before .before .before .args in omega (arith, length-set (a .buffer .now) (a .at) (a .letter)))
     (λ c. search needs)
     (λ c. let a = c .before .before .before .before .before .args in simp length-set (omega (arith, length-set (a .buffer .now) (a .at) (a .letter))))
-    returns)
+    (λ c. then-byte 10 (byte-then (c .before .before .put-counts .ensures .0) (omega arith)) (omega arith)))

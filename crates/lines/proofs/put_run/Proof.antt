@@ -1,7 +1,7 @@
 -- `lines::put_run` meets its contract. The loop's invariant: the numbers passed stand, each behind one space.
 -- The measure is the numbers that are left.
 use Prim.Native.Nat.{_+_, _*_, _-_, _≤_}
-use mathlib.Core.Path.{_≡_, refl, _∙_}
+use mathlib.Core.Path.{_≡_, refl}
 use native.Mathlib.Omega.{arith}
 use borrow.Author.Needs.{needs}
 use lib.IntN.{pos}
@@ -38,7 +38,7 @@ loop-again c =
     let number = getD (a .t1) (l .i) (pos 0) in
     let read-back : toZ w32 (ofZ w32 number) ≡ number = toZ-ofZ (record { sfits = c .before .before .before .before .put-number-arg .given }) in
     let place : a .from + (l .i - a .from) ≡ l .i = omega arith in
-    let same : getD (drop (a .from) (a .t1)) (l .i - a .from) (pos 0) ≡ number = getD-drop (a .from) (a .t1) (l .i - a .from) (pos 0) ∙ rw place in
+    let same : getD (drop (a .from) (a .t1)) (l .i - a .from) (pos 0) ≡ number = rw (getD-drop, place) in
     let next : l .i + 1 - a .from ≡ l .i - a .from + 1 = omega arith in (
       omega arith,
       omega arith,
