@@ -25,7 +25,7 @@ use Rattle.lines.proofs.decimals.Meaning.{digits-value, digits-decimal,
 use Rattle.lines.proofs.decimals.Texts.{count-text-one, number-text-one, minus-negative}
 use Rattle.lines.proofs.wholes.OneLine.{sheet-line-one, levels-line-one, route-line-one}
 use Rattle.lines.proofs.wholes.Sizes.{sheet-line-size, levels-line-size, route-line-size}
-use Rattle.lines.proofs.putting.Keeping.{same-place-exactly, buffer-unfit, before-kept, line-stands, line-behind, none-lost, after-kept, length-kept, place-within}
+use Rattle.lines.proofs.putting.Fitting.{same-place-exactly, buffer-unfit, before-kept, line-stands, line-behind, none-lost, after-kept, length-kept, place-within}
 use Rattle.lines.proofs.wholes.Sample.{first-line, line-s, last-line}
 
 -- The digits of a number mean it.

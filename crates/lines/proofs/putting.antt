@@ -4,4 +4,3 @@ pub mod Counting
 pub mod Signs
 pub mod Spacing
 pub mod Fitting
-pub mod Keeping

@@ -27,7 +27,7 @@ digitOf b = b - zeroByte
 
 digits-back : (ds : List ℕ) → map digitOf (map byteOf ds) ≡ ds
 digits-back [] = refl
-digits-back (d ∷ ds) = rw (digits-back ds) (ap (λ (x : ℕ). x ∷ ds) (let e : zeroByte + d - zeroByte ≡ d = omega arith in e))
+digits-back (d ∷ ds) = let e : zeroByte + d - zeroByte ≡ d = omega arith in rw (digits-back ds, e)
 
 count-value : (n : ℕ) → valueOf (map digitOf (countText n)) ≡ n
 unfolding countText
@@ -43,25 +43,16 @@ no-minus n m = let d = each-member DigitByte minus (countText n) (count-bytes n)
 not-count : (n : ℕ) (text : List ℕ) → countText n ≡ minus ∷ text → ⊥
 not-count n text e = no-minus n (subst (List·Memᴰ minus) (sym e) (List·Memᴰ·head refl))
 
--- a text without its first byte
-abbrev pub tail : List ℕ → List ℕ
-tail [] = []
-tail (x ∷ xs) = xs
-
 pub number-text-one : (y z : ℤ) → numberText y ≡ numberText z → y ≡ z
 unfolding numberText
 number-text-one (pos m) (pos n) e = ap pos (count-text-one m n e)
 number-text-one (pos m) (negsuc n) e = absurd (not-count m (countText (suc n)) e)
 number-text-one (negsuc m) (pos n) e = absurd (not-count n (countText (suc m)) (sym e))
 number-text-one (negsuc m) (negsuc n) e =
-    let s : suc m ≡ suc n = count-text-one (suc m) (suc n) (ap tail e) in
-    let p : m ≡ n = omega arith in
-    ap negsuc p
+    let s : suc m ≡ suc n = count-text-one (suc m) (suc n) cc in
+    cc
 
 pub minus-negative : (z : ℤ) → List·Memᴰ minus (numberText z) ↔ (z <ℤ pos 0)
 unfolding numberText
-minus-negative (pos n) = (λ m. absurd (no-minus n m), λ l. absurd (not-below n l))
-  where
-    not-below : (n : ℕ) → pos n <ℤ pos 0 → ⊥
-    not-below n l = let h : n < 0 = ltb-yes (l .lt) in omega arith
+minus-negative (pos n) = (λ m. absurd (no-minus n m), λ l. let h : n < 0 = ltb-yes (l .lt) in absurd (omega arith))
 minus-negative (negsuc n) = (λ m. record { lt = tt }, λ l. List·Memᴰ·head refl)

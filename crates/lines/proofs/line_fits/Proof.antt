@@ -7,11 +7,9 @@ use Rattle.lines.proofs.putting.Fitting.{fits-from}
 use Rattle.lines.proofs.line_fits.Statement.{statement}
 use Rattle.lines.proofs.line_fits.Tie as tie
 
-returns : tie.Need-returns
-returns c = rw (lt-leb (c .before .args .at + lineBytes) (c .before .args .bytes) (omega arith))
-
-returns-2 : tie.Need-returns-2
-returns-2 c = fits-from (c .before .args .at) (c .before .args .bytes) (c .if1 .left)
-
 pub line-fits-spec : {M : Type 1} → statement M
-line-fits-spec = tie.close (tie.spec returns returns-2)
+line-fits-spec =
+    tie.close
+    (tie.spec
+    (λ c. rw (lt-leb (c .before .args .at + lineBytes) (c .before .args .bytes) (omega arith)))
+    (λ c. fits-from (c .before .args .at) (c .before .args .bytes) (c .if1 .left)))

@@ -14,39 +14,21 @@ Inv-loop count places₀ rest₀ places rest = (length (digits count) ≡ places
 abbrev μ-loop : tie.MeasureT-loop
 μ-loop count places₀ rest₀ places rest = rest
 
-loop-holds : tie.Need-loop-holds Inv-loop μ-loop
-loop-holds c = (omega arith, places-at-most 19 (c .args .count) (omega arith))
-
-loop-again : tie.Need-loop-again Inv-loop μ-loop
-loop-again c = (omega (arith, places-four-more (c .before .loop .rest) (omega arith)), c .before .loop .inv .1)
-
-returns : tie.Need-returns Inv-loop μ-loop
-returns c = omega (arith, places-one (c .before .before .loop .rest) (omega arith))
-
-returns-2 : tie.Need-returns-2 Inv-loop μ-loop
-returns-2 c = omega (arith, places-two (c .before .before .before .loop .rest) (omega arith) (omega arith))
-
-returns-3 : tie.Need-returns-3 Inv-loop μ-loop
-returns-3 c = omega (arith, places-three (c .before .before .before .before .loop .rest) (omega arith) (omega arith))
-
-returns-4 : tie.Need-returns-4 Inv-loop μ-loop
-returns-4 c = omega (arith, places-four (c .before .before .before .before .loop .rest) (omega arith) (omega arith))
-
 pub places-spec : {M : Type 1} → statement M
 places-spec =
     tie.close
     (tie.spec
     Inv-loop
     μ-loop
-    loop-holds
+    (λ c. (omega arith, places-at-most 19 (c .args .count) (omega arith)))
     (λ c. omega arith)
     (λ c. omega arith)
-    loop-again
+    (λ c. (omega (arith, places-four-more (c .before .loop .rest) (omega arith)), c .before .loop .inv .1))
     (λ c. omega arith)
-    returns
+    (λ c. omega (arith, places-one (c .before .before .loop .rest) (omega arith)))
     (λ c. omega arith)
-    returns-2
+    (λ c. omega (arith, places-two (c .before .before .before .loop .rest) (omega arith) (omega arith)))
     (λ c. omega arith)
-    returns-3
+    (λ c. omega (arith, places-three (c .before .before .before .before .loop .rest) (omega arith) (omega arith)))
     (λ c. omega arith)
-    returns-4)
+    (λ c. omega (arith, places-four (c .before .before .before .before .loop .rest) (omega arith) (omega arith))))

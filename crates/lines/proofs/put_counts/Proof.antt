@@ -5,8 +5,9 @@ use mathlib.Core.Path.{_≡_, refl}
 use native.Mathlib.Omega.{arith}
 use borrow.Author.Needs.{needs}
 use lib.ListN.{length, length-set}
+use lib.Seq.{take-all}
 use Rattle.lines.specs.Decimals.{countText}
-use Rattle.lines.proofs.putting.Spacing.{Words, no-words, next-word, all-words}
+use Rattle.lines.proofs.putting.Spacing.{Words, no-words, next-word}
 use Rattle.lines.proofs.put_counts.Statement.{statement}
 use Rattle.lines.proofs.put_counts.Tie as tie
 
@@ -18,30 +19,24 @@ abbrev μ-loop : tie.MeasureT-loop
 μ-loop buffer₀ at counts end₀ i₀ buffer end i = 3 - i
 
 loop-holds : tie.Need-loop-holds Inv-loop μ-loop
-loop-holds c =
-    let a = c .before .args in
-    (omega arith, search needs, refl, omega arith, no-words countText (a .t1) (a .buffer .now) (a .at))
+loop-holds c = (omega arith, search needs, refl, omega arith, no-words countText (c .before .args .t1))
 
 loop-again : tie.Need-loop-again Inv-loop μ-loop
 loop-again c =
-    let a = c .before .before .before .before .before .before .before .args in
-    let l = c .before .before .before .before .before .loop in
-    let p = c .before .before .put-count in (
+    let counts = c .before .before .before .before .before .before .before .args .t1 in
+    let l = c .before .before .before .before .before .loop in (
       omega arith,
       l .inv .1,
       omega (arith, length-set (l .buffer) (l .end) 32),
       omega arith,
-      next-word countText (a .t1) (a .buffer .now) (a .at) (l .i) 0 (l .buffer) _ (l .end) _ (omega arith) (omega arith) (l .inv .4) (p .ensures .0),
+      next-word countText counts (l .i) 0 (l .inv .4) (c .before .before .put-count .ensures .0) (omega arith) (omega arith),
     )
-
-same-length : tie.Need-same-length Inv-loop μ-loop
-same-length c = c .before .loop .inv .2
 
 returns : tie.Need-returns Inv-loop μ-loop
 returns c =
-    let a = c .before .before .before .args in
+    let counts = c .before .before .before .args .t1 in
     let l = c .before .loop in
-    (all-words countText (a .t1) (a .buffer .now) (a .at) (l .i) (l .buffer) (l .end) (omega arith) (l .inv .4), omega arith)
+    (rw (take-all (l .i) counts (omega arith)) at (l .inv .4), omega arith)
 
 pub put-counts-spec : {M : Type 1} → statement M
 put-counts-spec =
@@ -58,5 +53,5 @@ put-counts-spec =
     (λ c. omega arith)
     (λ c. omega arith)
     loop-again
-    same-length
+    (λ c. c .before .loop .inv .2)
     returns)

@@ -1,14 +1,13 @@
 -- `lines::put_digit` meets its contract: a count below ten is its own digit.
 use native.Mathlib.Omega.{arith}
-use Rattle.lines.proofs.putting.Counting.{one-stands}
+use Rattle.lines.proofs.putting.Counting.{count-one}
+use Rattle.lines.proofs.putting.Placing.{put-byte}
 use borrow.Author.Needs.{needs}
 use Rattle.lines.proofs.put_digit.Statement.{statement}
 use Rattle.lines.proofs.put_digit.Tie as tie
 
 returns : tie.Need-returns
-returns c =
-    let a = c .args in
-    (one-stands (a .buffer .now) (a .at) (a .count) (c .pre .0) (c .pre .1), omega arith)
+returns c = (rw (count-one (c .args .count) (c .pre .0)) (put-byte (c .pre .1)), omega arith)
 
 pub put-digit-spec : {M : Type 1} → statement M
 put-digit-spec =

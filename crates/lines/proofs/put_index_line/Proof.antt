@@ -8,11 +8,9 @@ use Rattle.lines.proofs.put_index_line.Tie as tie
 
 returns : tie.Need-returns
 returns c =
-    let a = c .before .before .before .before .before .before .before .before .before .args in
     let index = c .before .before .before .before .before .before .put-count in
     let numbers = c .before .before .put-numbers in
-    then-byte (a .buffer .now) (a .at) _ _ (numbers .result) 10 (omega arith)
-    (put-on (a .buffer .now) (a .at) _ _ _ _ (index .result) (numbers .result) (omega arith) (index .ensures .0) (numbers .ensures .0))
+    then-byte 10 (put-on (index .ensures .0) (numbers .ensures .0) (omega arith)) (omega arith)
 
 pub put-index-line-spec : {M : Type 1} → statement M
 put-index-line-spec =

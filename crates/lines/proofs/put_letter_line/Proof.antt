@@ -6,24 +6,6 @@ use lib.ListN.{length-set}
 use Rattle.lines.proofs.put_letter_line.Statement.{statement}
 use Rattle.lines.proofs.put_letter_line.Tie as tie
 
-slice-write-buffer-2 : tie.Need-slice-write-buffer-2
-slice-write-buffer-2 c =
-    let a = c .before .before .before .before .before .args in
-    omega (arith, length-set (a .buffer .now) (a .at) (a .letter))
-
-same-length : tie.Need-same-length
-same-length c =
-    let a = c .before .before .before .before .before .args in
-    let p = c .before .before .put-counts in
-    simp length-set (omega (arith, length-set (a .buffer .now) (a .at) (a .letter)))
-
-returns : tie.Need-returns
-returns c =
-    let a = c .before .before .before .before .before .args in
-    let p = c .before .before .put-counts in
-    then-byte (a .buffer .now) (a .at) _ _ (p .result) 10 (omega arith)
-    (byte-then (a .buffer .now) (a .at) (a .letter) _ _ (p .result) (omega arith) (p .ensures .0))
-
 pub put-letter-line-spec : {M : Type 1} → statement M
 put-letter-line-spec =
     tie.close
@@ -31,7 +13,7 @@ put-letter-line-spec =
     (λ c. search needs)
     (λ c. search needs)
     (λ c κs. simp length-set (omega arith))
-    slice-write-buffer-2
+    (λ c. let a = c .before .before .before .before .before .args in omega (arith, length-set (a .buffer .now) (a .at) (a .letter)))
     (λ c. search needs)
-    same-length
-    returns)
+    (λ c. let a = c .before .before .before .before .before .args in simp length-set (omega (arith, length-set (a .buffer .now) (a .at) (a .letter))))
+    (λ c. then-byte 10 (byte-then (c .before .before .put-counts .ensures .0) (omega arith)) (omega arith)))

@@ -5,7 +5,6 @@ use mathlib.Core.Path.{_≡_, refl}
 use native.Mathlib.Omega.{arith}
 use borrow.Author.Needs.{needs}
 use lib.ListN.{length, length-set}
-use Rattle.lines.specs.Decimals.{digits}
 use Rattle.lines.proofs.decimals.Digits.{places-at-most, places-some}
 use Rattle.lines.proofs.putting.Counting.{Standing, none-stands, one-more-stands, all-stands}
 use Rattle.lines.proofs.put_long_count.Statement.{statement}
@@ -13,41 +12,24 @@ use Rattle.lines.proofs.put_long_count.Tie as tie
 
 abbrev Inv-loop : tie.InvT-loop
 Inv-loop count buffer₀ at end place₀ rest₀ buffer place rest =
-    (length buffer ≡ length buffer₀) × (end ≡ at + length (digits count)) × (end ≤ at + 20) × (place ≤ at + 20)
-    × Standing buffer₀ at count buffer place rest
+    (length buffer ≡ length buffer₀) × (end ≤ at + 20) × (place ≤ at + 20) × Standing buffer₀ at count end buffer place rest
 
 abbrev μ-loop : tie.MeasureT-loop
 μ-loop count buffer₀ at end place₀ rest₀ buffer place rest = rest
 
-add-end : tie.Need-add-end Inv-loop μ-loop
-add-end c = omega (arith, places-at-most 19 (c .before .before .args .count) (omega arith))
-
 loop-holds : tie.Need-loop-holds Inv-loop μ-loop
 loop-holds c =
     let a = c .before .before .args in
-    let e : a .at + c .places .result ≡ a .at + length (digits (a .count)) = omega arith in
-    let small : c .places .result ≤ 20 = omega (arith, places-at-most 19 (a .count) (omega arith)) in
-    (refl, e, omega arith, omega arith, none-stands (a .buffer .now) (a .at) (a .count) _ e)
-
-sub-place : tie.Need-sub-place Inv-loop μ-loop
-sub-place c = omega (arith, places-some (c .before .loop .rest))
+    let small = places-at-most 19 (a .count) (omega arith) in
+    (refl, omega arith, omega arith, none-stands (a .buffer .now) (a .at) (a .count) _ (omega arith))
 
 loop-again : tie.Need-loop-again Inv-loop μ-loop
 loop-again c =
-    let a = c .before .before .before .before .args in
-    let l = c .before .loop in (
-      simp length-set (l .inv .0),
-      l .inv .1,
-      l .inv .2,
-      omega arith,
-      one-more-stands (a .buffer .now) (a .at) (a .count) (l .buffer) (l .place) (l .rest) (l .inv .4) (omega arith) (omega arith),
-    )
+    let l = c .before .loop in
+    (simp length-set (l .inv .0), l .inv .1, omega arith, one-more-stands (l .inv .3) (omega arith) (omega arith))
 
 returns : tie.Need-returns Inv-loop μ-loop
-returns c =
-    let a = c .before .before .before .before .args in
-    let l = c .before .loop in
-    (all-stands (a .buffer .now) (a .at) (a .count) (l .buffer) (l .place) (l .rest) (l .inv .4) _ (l .inv .1) (omega arith) (omega arith), l .inv .2)
+returns c = let l = c .before .loop in (all-stands (l .inv .3) (omega arith) (omega arith), l .inv .1)
 
 pub put-long-count-spec : {M : Type 1} → statement M
 put-long-count-spec =
@@ -56,9 +38,9 @@ put-long-count-spec =
     Inv-loop
     μ-loop
     (λ c κs. search needs)
-    add-end
+    (λ c. omega (arith, places-at-most 19 (c .before .before .args .count) (omega arith)))
     loop-holds
-    sub-place
+    (λ c. omega (arith, places-some (c .before .loop .rest)))
     (λ c. omega arith)
     (λ c. omega arith)
     (λ c. omega arith)

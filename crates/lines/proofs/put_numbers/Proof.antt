@@ -15,11 +15,8 @@ returns c =
     let second = c .before .before in
     let first = second .before .before .before .before in
     let a = first .before .before .before .args in
-    let all : length (a .numbers) ≡ numberCount = search needs in (
-      two-runs numberText (a .numbers) (a .buffer .now) (a .at) 7 (numberCount - 7) _ _ (first .put-run .result) (second .put-run2 .result) (omega arith)
-          (omega arith) (first .put-run .ensures .0) (second .put-run2 .ensures .0),
-      omega arith,
-    )
+    let all : length (a .numbers) ≡ numberCount = search needs in
+    (two-runs numberText (a .numbers) 7 (numberCount - 7) (omega arith) (first .put-run .ensures .0) (second .put-run2 .ensures .0) (omega arith), omega arith)
 
 pub put-numbers-spec : {M : Type 1} → statement M
 put-numbers-spec = tie.close (tie.spec (λ c κs. search needs) (λ c κs. search needs) (λ c. search needs) returns)

@@ -1,22 +1,22 @@
 -- `lines::put_route_line` meets its contract: where a line fits, and where none does.
-use mathlib.Core.Path.{sym, _∙_}
-use borrow.Author.Tests.{not-true, not-false, leb-true}
-use Rattle.lines.specs.Lines.{routeLine}
-use Rattle.lines.proofs.putting.Fitting.{unfit, fitting}
 use borrow.Author.Needs.{needs}
+use Rattle.lines.specs.Lines.{routeLine}
+use Rattle.lines.proofs.putting.Fitting.{room, unfit, fitting}
 use Rattle.lines.proofs.put_route_line.Statement.{statement}
 use Rattle.lines.proofs.put_route_line.Tie as tie
 
-returns : tie.Need-returns
-returns c = unfit _ _ _ (sym (c .before .line-fits .ensures) ∙ not-true _ (c .if1 .taken))
-
-put-letter-line-requires : tie.Need-put-letter-line-requires
-put-letter-line-requires c κs = leb-true _ _ (sym (c .before .before .line-fits .ensures) ∙ not-false _ (c .before .if1 .left))
-
 returns-2 : tie.Need-returns-2
 unfolding routeLine
-returns-2 c = fitting _ _ _ (sym (c .before .before .before .before .before .line-fits .ensures) ∙ not-false _ (c .before .before .before .before .if1 .left)) (c .before .before .put-letter-line .ensures)
+returns-2 c =
+    let g = c .before .before .before .before in
+    fitting _ _ _ (g .before .line-fits .ensures) (g .if1 .left) (c .before .before .put-letter-line .ensures)
 
 pub put-route-line-spec : {M : Type 1} → statement M
 put-route-line-spec =
-    tie.close (tie.spec (λ c κs. search needs) returns put-letter-line-requires (λ c. search needs) returns-2)
+    tie.close
+    (tie.spec
+    (λ c κs. search needs)
+    (λ c. unfit _ _ _ (c .before .line-fits .ensures) (c .if1 .taken))
+    (λ c κs. room _ _ (c .before .before .line-fits .ensures) (c .before .if1 .left))
+    (λ c. search needs)
+    returns-2)

@@ -1,7 +1,7 @@
 -- `lines::put_run` meets its contract. The loop's invariant: the numbers passed stand, each behind one space.
 -- The measure is the numbers that are left.
 use Prim.Native.Nat.{_+_, _*_, _-_, _≤_}
-use mathlib.Core.Path.{_≡_, refl, _∙_}
+use mathlib.Core.Path.{_≡_, refl}
 use native.Mathlib.Omega.{arith}
 use borrow.Author.Needs.{needs}
 use lib.IntN.{pos}
@@ -28,7 +28,7 @@ loop-holds : tie.Need-loop-holds Inv-loop μ-loop
 loop-holds c =
     let a = c .before .args in
     let none : a .from - a .from ≡ 0 = omega arith in
-    (omega arith, c .before .pre .0, search needs, refl, omega arith, rw none (no-words numberText (drop (a .from) (a .t1)) (a .buffer .now) (a .at)))
+    (omega arith, c .before .pre .0, search needs, refl, omega arith, rw none (no-words numberText (drop (a .from) (a .t1))))
 
 loop-again : tie.Need-loop-again Inv-loop μ-loop
 loop-again c =
@@ -38,7 +38,7 @@ loop-again c =
     let number = getD (a .t1) (l .i) (pos 0) in
     let read-back : toZ w32 (ofZ w32 number) ≡ number = toZ-ofZ (record { sfits = c .before .before .before .before .put-number-arg .given }) in
     let place : a .from + (l .i - a .from) ≡ l .i = omega arith in
-    let same : getD (drop (a .from) (a .t1)) (l .i - a .from) (pos 0) ≡ number = getD-drop (a .from) (a .t1) (l .i - a .from) (pos 0) ∙ rw place in
+    let same : getD (drop (a .from) (a .t1)) (l .i - a .from) (pos 0) ≡ number = rw (getD-drop, place) in
     let next : l .i + 1 - a .from ≡ l .i - a .from + 1 = omega arith in (
       omega arith,
       omega arith,
@@ -46,12 +46,9 @@ loop-again c =
       omega (arith, length-set (l .buffer) (l .end) 32),
       omega arith,
       rw next
-          (next-word numberText (drop (a .from) (a .t1)) (a .buffer .now) (a .at) (l .i - a .from) (pos 0) (l .buffer) _ (l .end) _
-          (omega (arith, length-drop (a .from) (a .t1))) (omega arith) (l .inv .5) (rw same (rw read-back at (p .ensures .0)))),
+          (next-word numberText (drop (a .from) (a .t1)) (l .i - a .from) (pos 0) (l .inv .5) (rw same (rw read-back at (p .ensures .0)))
+          (omega (arith, length-drop (a .from) (a .t1))) (omega arith)),
     )
-
-same-length : tie.Need-same-length Inv-loop μ-loop
-same-length c = c .before .loop .inv .3
 
 returns : tie.Need-returns Inv-loop μ-loop
 returns c =
@@ -75,5 +72,5 @@ put-run-spec =
     (λ c. omega arith)
     (λ c. omega arith)
     loop-again
-    same-length
+    (λ c. c .before .loop .inv .3)
     returns)

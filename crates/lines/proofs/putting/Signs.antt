@@ -2,13 +2,14 @@
 use mathlib.Core.Path.{_≡_, refl}
 use mathlib.Core.Bool.{true, false}
 use mathlib.Core.List.{List, _∷_}
-use Prim.Native.Nat.{ℕ, _+_, _≤_, _<_}
+use Prim.Native.Nat.{ℕ, suc, _+_, _≤_, _<_}
 use native.Mathlib.Omega.{arith}
 use borrow.Author.Tests.{ltb-true}
 use lib.IntN.{ℤ, pos, negsuc, natAbs}
 use lib.Signed.{ltZ}
 use mir.Syntax.{w32}
-use mir.Val.{SFits}
+use mir.Val.{SFits, toZ, ofZ}
+use mir.Facts.{toZ-ofZ}
 use lib.ListN.{length, set}
 use Rattle.laws.proofs.Never.{never}
 use Rattle.lines.specs.Decimals.{minus, countText, numberText}
@@ -16,31 +17,32 @@ use Rattle.lines.specs.Lines.{Put}
 use Rattle.lines.proofs.putting.Counting.{count-at-most}
 use Rattle.lines.proofs.putting.Placing.{byte-then}
 
--- without its sign a 32-bit number has at most ten digits
-pub size-at-most : (z : ℤ) → SFits w32 z → natAbs z ≤ 2147483648
-size-at-most (pos n) f = omega (arith, f .sfits)
-size-at-most (negsuc n) f = omega (arith, f .sfits)
+-- a 32-bit number has at most ten digits, and a sign
+pub number-at-most : (z : ℤ) → SFits w32 z → length (numberText z) ≤ 11
+unfolding numberText
+number-at-most (pos n) f = omega (arith, count-at-most 9 n (omega (arith, f .sfits)))
+number-at-most (negsuc n) f = omega (arith, count-at-most 9 (suc n) (omega (arith, f .sfits)))
 
-pub number-at-most : (z : ℤ) → SFits w32 z → length (countText (natAbs z)) ≤ 10
-number-at-most z f = count-at-most 9 (natAbs z) (omega (arith, size-at-most z f))
-
-pub negative-text : (z : ℤ) → ltZ z (pos 0) ≡ true → numberText z ≡ minus ∷ countText (natAbs z)
+negative-text : (z : ℤ) → ltZ z (pos 0) ≡ true → numberText z ≡ minus ∷ countText (natAbs z)
 unfolding numberText
 negative-text (pos n) t = let h = ltb-true n 0 t in absurd (omega arith)
 negative-text (negsuc n) t = refl
 
-pub plain-text : (z : ℤ) → ltZ z (pos 0) ≡ false → numberText z ≡ countText (natAbs z)
+plain-text : (z : ℤ) → ltZ z (pos 0) ≡ false → numberText z ≡ countText (natAbs z)
 unfolding numberText
 plain-text (pos n) t = refl
 plain-text (negsuc n) t = never cc
 
--- a number put with its sign and without one
-module _ (z : ℤ) (fit : SFits w32 z) (buffer : List ℕ) (at : ℕ) (later : List ℕ) (end : ℕ) where
-  pub put-negative : ltZ z (pos 0) ≡ true → at < length buffer → Put (set buffer at minus) (at + 1) (countText (natAbs z)) later end
+-- a number put with its sign and without one; the code has it as it is read off its bits, and m is that without its sign
+module _ {z : ℤ} (fit : SFits w32 z) {buffer later : List ℕ} {at end m : ℕ} (size : m ≡ natAbs (toZ w32 (ofZ w32 z))) where
+  pub put-negative : ltZ (toZ w32 (ofZ w32 z)) (pos 0) ≡ true → Put (set buffer at minus) (at + 1) (countText m) later end → at < length buffer
       → Put buffer at (numberText z) later end × (end ≤ at + 11)
-  put-negative t h p =
-      (rw (negative-text z t) (byte-then buffer at minus (countText (natAbs z)) later end h p), omega (arith, p .after, number-at-most z fit))
+  put-negative t p h =
+      let q : Put buffer at (numberText z) later end = rw (negative-text z (rw (toZ-ofZ fit) at t)) (byte-then (rw (size, toZ-ofZ fit) at p) h) in
+      (q, omega (arith, number-at-most z fit))
 
-  pub put-plain : ltZ z (pos 0) ≡ false → Put buffer at (countText (natAbs z)) later end
+  pub put-plain : ltZ (toZ w32 (ofZ w32 z)) (pos 0) ≡ false → Put buffer at (countText m) later end
       → Put buffer at (numberText z) later end × (end ≤ at + 11)
-  put-plain t p = (rw (plain-text z t) p, omega (arith, p .after, number-at-most z fit))
+  put-plain t p =
+      let q : Put buffer at (numberText z) later end = rw (plain-text z (rw (toZ-ofZ fit) at t)) (rw (size, toZ-ofZ fit) at p) in
+      (q, omega (arith, number-at-most z fit))

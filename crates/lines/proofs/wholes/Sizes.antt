@@ -1,17 +1,17 @@
 -- No line is longer than the bytes it is given: a count has at most twenty digits and a number at most eleven bytes.
-use mathlib.Core.Path.{_≡_, ap, _∙_}
-use mathlib.Core.List.{List, [], _∷_, _++_, map}
-use Prim.Native.Nat.{ℕ, suc, _+_, _*_, _^_, _≤_, _<_}
+use mathlib.Core.Path.{_≡_}
+use mathlib.Core.List.{List, [], _∷_, map}
+use Prim.Native.Nat.{ℕ, _+_, _*_, _^_, _≤_, _<_}
 use native.Mathlib.Nat.{mul-suc}
 use native.Mathlib.Omega.{arith}
-use lib.IntN.{ℤ, pos, negsuc}
+use lib.IntN.{ℤ}
 use lib.ListN.{length, length-append, length-map}
 use mir.Syntax.{w32}
 use mir.Val.{SFits}
 use Rattle.laws.specs.Each.{Each}
 use Rattle.lines.specs.Decimals.{countText, numberText}
 use Rattle.design.specs.Numbers.{numberCount}
-use Rattle.lines.specs.Lines.{newline, letterL, letterR, spaced, lineText, levelsLine, sheetLine, routeLine}
+use Rattle.lines.specs.Lines.{spaced, levelsLine, sheetLine, routeLine}
 use Rattle.laws.proofs.Each.{each-map}
 use Rattle.lines.proofs.putting.Counting.{count-at-most}
 use Rattle.lines.proofs.putting.Signs.{number-at-most}
@@ -20,33 +20,17 @@ spaced-at-most : (k : ℕ) (words : List (List ℕ)) → Each (λ (word : List �
 unfolding spaced
 spaced-at-most k [] e = omega arith
 spaced-at-most k (word ∷ words) e =
-    let rest = spaced-at-most k words (e .1) in
-    let one = e .0 in
-    let n = length-append word (spaced words) in
-    let p : (k + 1) * suc (length words) ≡ (k + 1) * length words + (k + 1) = mul-suc (k + 1) (length words) in
-    omega arith
+    omega (arith, spaced-at-most k words (e .1), length-append word (spaced words), mul-suc (k + 1) (length words))
 
 count-at-most-20 : (n : ℕ) → n < 2 ^ 64 → length (countText n) ≤ 20
 count-at-most-20 n h = count-at-most 19 n (omega arith)
-
-number-at-most-11 : (z : ℤ) → SFits w32 z → length (numberText z) ≤ 11
-unfolding numberText
-number-at-most-11 (pos n) f = omega (arith, number-at-most (pos n) f)
-number-at-most-11 (negsuc n) f = omega (arith, number-at-most (negsuc n) f)
-
-line-length : (first : List ℕ) (others : List (List ℕ)) → length (lineText first others) ≡ length first + length (spaced others) + 1
-line-length first others =
-    length-append (first ++ spaced others) (newline ∷ []) ∙ ap (λ (n : ℕ). n + 1) (length-append first (spaced others))
 
 pub sheet-line-size : (index : ℕ) (numbers : List ℤ) → index < 2 ^ 64 → length numbers ≡ numberCount → Each (SFits w32) numbers
     → length (sheetLine index numbers) ≤ 12 * numberCount + 21
 unfolding sheetLine
 sheet-line-size index numbers h n fit =
-    let words = map numberText numbers in
-    let s = spaced-at-most 11 words (each-map (SFits w32) (λ (w : List ℕ). length w ≤ 11) numberText number-at-most-11 numbers fit) in
-    let k : length words ≡ numberCount = length-map numbers numberText ∙ n in
-    let t : length (spaced words) ≤ 12 * numberCount = rw k at s in
-    omega (arith, line-length (countText index) words, count-at-most-20 index h)
+    let each = each-map (SFits w32) (λ (w : List ℕ). length w ≤ 11) numberText number-at-most numbers fit in
+    simp length-append (omega (arith, spaced-at-most 11 (map numberText numbers) each, length-map numbers numberText, count-at-most-20 index h))
 
 module _ (a b c : ℕ) (fit-a : a < 2 ^ 64) (fit-b : b < 2 ^ 64) (fit-c : c < 2 ^ 64) where
   three : length (spaced (map countText (a ∷ b ∷ c ∷ []))) ≤ 21 * 3
@@ -54,8 +38,8 @@ module _ (a b c : ℕ) (fit-a : a < 2 ^ 64) (fit-b : b < 2 ^ 64) (fit-c : c < 2 
 
   pub levels-line-size : length (levelsLine a b c) ≤ 65
   unfolding levelsLine
-  levels-line-size = omega (arith, line-length (letterL ∷ []) (map countText (a ∷ b ∷ c ∷ [])), three)
+  levels-line-size = simp length-append (omega (arith, three))
 
   pub route-line-size : length (routeLine a b c) ≤ 65
   unfolding routeLine
-  route-line-size = omega (arith, line-length (letterR ∷ []) (map countText (a ∷ b ∷ c ∷ [])), three)
+  route-line-size = simp length-append (omega (arith, three))
