@@ -8,14 +8,6 @@ module _ {A : Type 0} (P : A → Type 0) where
   each-append [] second p q = q
   each-append (x ∷ first) second p q = (p .0, each-append first second (p .1) q)
 
-  pub each-first : (first second : List A) → Each P (first ++ second) → Each P first
-  each-first [] second p = tt
-  each-first (x ∷ first) second p = (p .0, each-first first second (p .1))
-
-  pub each-second : (first second : List A) → Each P (first ++ second) → Each P second
-  each-second [] second p = p
-  each-second (x ∷ first) second p = each-second first second (p .1)
-
   pub each-member : (a : A) (xs : List A) → Each P xs → List·Memᴰ a xs → P a
   each-member a (x ∷ xs) p (List·Memᴰ·head e) = subst P (sym e) (p .0)
   each-member a (x ∷ xs) p (List·Memᴰ·tail m) = each-member a xs (p .1) m
