@@ -7,7 +7,7 @@ use Prim.Native.Nat.{ℕ, _<_, _≤_}
 use native.Mathlib.Omega.{arith}
 use borrow.Author.Tests.{eqb-true, eqb-false, ltb-true, ltb-false}
 use lib.Dec.{eqb, ltb}
-use lib.ListN.{length, take, drop, length-append, length-drop}
+use lib.ListN.{length, take, drop}
 use lib.Seq.{drop-at}
 use Rattle.laws.proofs.Never.{never}
 use Rattle.laws.specs.Choice.{if_then_else_}
@@ -133,7 +133,7 @@ module _ (s : Sheet) (place : List ℕ) where
       go w o (bad-field k l f m) n = refl
       go w o (done l f) n = absurd (n refl)
 
-  -- any writing changes none past the 28th, and leaves the place as long as it was
+  -- any writing changes none past the 28th
   pub past-unchanged : drop size (placeOf s place) ≡ drop size place
   past-unchanged = go (writtenOf s place) (placeOf s place) (wrote s place)
     where
@@ -141,11 +141,3 @@ module _ (s : Sheet) (place : List ℕ) where
       go w o (too-small l) = refl
       go w o (bad-field k l f m) = refl
       go w o (done l f) = drop-at (bytesOf (figuresOf s)) (drop size place) size (bytes-length (figuresOf s))
-
-  pub place-length : length (placeOf s place) ≡ length place
-  place-length = go (writtenOf s place) (placeOf s place) (wrote s place)
-    where
-      go : (w : SheetWritten) (o : List ℕ) → Wrote s place w o → length o ≡ length place
-      go w o (too-small l) = refl
-      go w o (bad-field k l f m) = refl
-      go w o (done l f) = rw (length-append, bytes-length, length-drop) (omega arith)
