@@ -34,9 +34,6 @@ Inv-loop given place₀ held₀ at₀ i₀ place held at i = Mid width (nth give
 abbrev μ-loop : tie.MeasureT-loop
 μ-loop given place₀ held₀ at₀ i₀ place held at i = groups - i
 
-loop-holds : tie.Need-loop-holds Inv-loop2 μ-loop2 Inv-loop μ-loop
-loop-holds c = (mid-start _ _ _ _, omega arith, omega arith, record { same = refl; tail = refl })
-
 put-requires : tie.Need-put-requires Inv-loop2 μ-loop2 Inv-loop μ-loop
 unfolding Narrow
 put-requires c κs =
@@ -72,9 +69,6 @@ add-at c =
     let d = c .before .before .before .before in
     let i = d .before .before .before .before .before .loop .i in
     omega (arith, starts-eight (d .loop2 .at), starts-le width (i + 1) groups (omega arith), starts-width)
-
-loop2-less : tie.Need-loop2-less Inv-loop2 μ-loop2 Inv-loop μ-loop
-loop2-less c = omega (arith, c .rest .ensures .1)
 
 loop2-again : tie.Need-loop2-again Inv-loop2 μ-loop2 Inv-loop μ-loop
 loop2-again c =
@@ -125,7 +119,7 @@ join-spec =
     μ-loop2
     Inv-loop
     μ-loop
-    loop-holds
+    (λ c. (mid-start _ _ _ _, omega arith, omega arith, record { same = refl; tail = refl }))
     (λ c κs. search needs)
     (λ c κs. search needs)
     put-requires
@@ -135,7 +129,7 @@ join-spec =
     slice-write-place
     (λ c κs. search needs)
     add-at
-    loop2-less
+    (λ c. omega (arith, c .rest .ensures .1))
     loop2-again
     (λ c. search needs)
     (λ c. search needs)

@@ -34,12 +34,6 @@ full c =
     full-is _ _ (l .figures) (l .between) (c .filled .result) (l .i) (c .before .width-of .result) (narrow (c .before)) (l .inv .0)
     (c .filled .ensures)
 
-loop-holds : tie.Need-loop-holds Inv-loop μ-loop
-loop-holds c = (c .before .pre .1 .0, c .before .pre .1 .1 .0)
-
-width-of-requires : tie.Need-width-of-requires Inv-loop μ-loop
-width-of-requires c κs = let h = in-table c in omega arith
-
 filled-requires : tie.Need-filled-requires Inv-loop μ-loop
 filled-requires c κs =
     let l = c .before .before in
@@ -72,9 +66,6 @@ cast-figures c =
           );
     }
 
-element-write-figures : tie.Need-element-write-figures Inv-loop μ-loop
-element-write-figures c = in-table (c .before .before .before .before)
-
 rest-requires : tie.Need-rest-requires Inv-loop μ-loop
 rest-requires c κs =
     let f = full (c .before .before) in
@@ -102,13 +93,13 @@ split-on-spec =
     (tie.spec
     Inv-loop
     μ-loop
-    loop-holds
-    width-of-requires
+    (λ c. (c .before .pre .1 .0, c .before .pre .1 .1 .0))
+    (λ c κs. let h = in-table c in omega arith)
     filled-requires
     first-requires
     cast-figures
     (λ c. search needs)
-    element-write-figures
+    (λ c. in-table (c .before .before .before .before))
     rest-requires
     (λ c. search needs)
     (λ c. search needs)
