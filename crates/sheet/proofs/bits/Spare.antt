@@ -62,17 +62,12 @@ module _ (bytes : List ℕ) (small : Bytes bytes) where
   past-fields : (j : ℕ) → nth (bitsOfBytes bytes) (starts width count + j) ≡ nth (bitsOf (width count) (nth (groupsOf bytes) count)) j
   past-fields j = rw (packed bytes small) (next-group width (nth (groupsOf bytes)) count j)
 
-  set-not-zero : SpareSet bytes → nth (groupsOf bytes) count ≡ 0 → ⊥
-  set-not-zero s z =
-      let e : nth (bitsOf (width count) 0) (s .place) ≡ 1 = rw z at (sym (past-fields (s .place)) ∙ s .set) in
-      omega (arith, no-bit (width count) (s .place))
-
-  not-zero-set : (nth (groupsOf bytes) count ≡ 0 → ⊥) → SpareSet bytes
-  unfolding Narrow
-  not-zero-set n =
-      let b = some-bit (width count) (nth (groupsOf bytes) count) (groups-narrow bytes count (omega arith)) n in
-      record { place = b .0; set = past-fields (b .0) ∙ b .1 }
-
   -- a spare bit is set exactly when their group is not 0
   pub spare-set : SpareSet bytes ↔ (nth (groupsOf bytes) count ≡ 0 → ⊥)
-  spare-set = (set-not-zero, not-zero-set)
+  unfolding Narrow
+  spare-set = (
+    (λ s z. let e : nth (bitsOf (width count) 0) (s .place) ≡ 1 = rw z at (sym (past-fields (s .place)) ∙ s .set) in
+        omega (arith, no-bit (width count) (s .place))),
+    (λ n. let b = some-bit (width count) (nth (groupsOf bytes) count) (groups-narrow bytes count (omega arith)) n in
+        record { place = b .0; set = past-fields (b .0) ∙ b .1 }),
+  )
