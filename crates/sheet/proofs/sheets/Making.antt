@@ -35,19 +35,9 @@ module _ (v : List ℕ) (k : ℕ) (f : k ≡ firstBad v) where
   unfolding sheetFrom
   from-good s h g = rw (← f, eq-eqb k 0 h, g)
 
--- the greatest bed and the greatest source
-bed-greatest : greatest 5 ≡ 3000
-unfolding greatest fieldAt fields
-bed-greatest = refl
-
-source-greatest : greatest 26 ≡ 1
-unfolding greatest fieldAt fields
-source-greatest = refl
-
 pub sheet-of-figures : (s : Sheet) → Valid s → sheetOf (figuresOf s) ≡ s
-unfolding Valid sheetOf figuresOf
-sheet-of-figures s e =
-    rw (bed-back (s .bed) (omega (arith, fine (figuresOf s) e 5 (omega arith) .high, bed-greatest)), level-back (s .level))
+unfolding Valid sheetOf figuresOf greatest fieldAt fields
+sheet-of-figures s e = rw (bed-back (s .bed) (fine (figuresOf s) e 5 (omega arith) .high), level-back (s .level))
 
 no-level : (v : List ℕ) → pairBad v 27 ≡ false → nth v 26 ≡ 0 → nth v 27 ≡ 0
 unfolding pairBad
@@ -55,11 +45,9 @@ no-level v p h = eqb-true (nth v 27) 0 (not-false _ (rw (eq-eqb (nth v 26) 0 h) 
 
 -- figures of which none is bad are those of their sheet
 pub figures-of-sheet : (v : List ℕ) → firstBad v ≡ 0 → figuresOf (sheetOf v) ≡ onlyFields v
-unfolding sheetOf figuresOf bedFigure listed
+unfolding sheetOf figuresOf bedFigure listed greatest fieldAt fields
 figures-of-sheet v e =
-    let source = fine v e 26 (omega arith) in
-    let level = fine v e 27 (omega arith) in
-    let b = figures-back (nth v 26) (nth v 27) (omega (arith, source-greatest)) (no-level v (level .pair)) in
+    let b = figures-back (nth v 26) (nth v 27) (fine v e 26 (omega arith) .high) (no-level v (fine v e 27 (omega arith) .pair)) in
     rw (b .source-back, b .level-figure-back)
 
 pub valid-sheet : (v : List ℕ) → firstBad v ≡ 0 → Valid (sheetOf v)
