@@ -2,6 +2,6 @@
 pub mod Valid
 pub mod Making
 pub mod Answers
-pub mod OneWriting
 pub mod Reading
+pub mod OneWriting
 pub mod Writing

@@ -1,5 +1,5 @@
 -- The bits of a sheet's bytes in a row are those of its fields and spare bits in a row.
-use mathlib.Core.Path.{_≡_, refl, ap, ap₂, sym, _∙_}
+use mathlib.Core.Path.{_≡_, refl, ap₂, sym, _∙_}
 use mathlib.Core.List.{List, _++_}
 use Prim.Native.Nat.{ℕ, zero, suc, _+_, _*_, _/_, _%_, _^_, _<_}
 use native.Mathlib.Nat.{add-comm, zero-add, suc-add, pow-suc, mul-assoc, mul-comm, mul-add-div-right, mul-add-mod-self-right}
@@ -34,8 +34,7 @@ pub strung-joined : (w v : ℕ → ℕ) (n : ℕ) → ((k : ℕ) → k < n → v
 unfolding starts joined strung bitsOf
 strung-joined w v zero b = refl
 strung-joined w v (suc n) b =
-    bits-then (starts w n) (w n) (joined w v n) (v n) (b n (omega arith))
-    ∙ ap (λ (l : List ℕ). l ++ bitsOf (w n) (v n)) (strung-joined w v n (λ k h. b k (omega arith)))
+    rw (bits-then (starts w n) (w n) (joined w v n) (v n) (b n (omega arith)), strung-joined w v n (λ k h. b k (omega arith)))
 
 -- fields packed most significant bit first
 pub packed : (bytes : List ℕ) → Bytes bytes → bitsOfBytes bytes ≡ bitsOfGroups (groupsOf bytes)

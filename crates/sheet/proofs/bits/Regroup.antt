@@ -1,5 +1,5 @@
 -- Bits taken in in groups of one kind and given out in groups of another: what holds between two steps, and at the end.
-use mathlib.Core.Path.{_≡_, refl, ap, ap₂, sym, _∙_}
+use mathlib.Core.Path.{_≡_, refl, ap, sym, _∙_}
 use mathlib.Core.List.{List}
 use Prim.Native.Nat.{ℕ, zero, suc, _+_, _-_, _*_, _/_, _%_, _^_, _<_, _≤_}
 use native.Mathlib.Nat.{mul-one, add-zero, zero-add, le-of-suc-le-suc, not-suc-le-zero}
@@ -19,8 +19,7 @@ use Rattle.sheet.proofs.bits.Steps.{put-tail, take-tail, first-lt}
 pub joined-same : (w u v : ℕ → ℕ) (n : ℕ) → ((k : ℕ) → k < n → u k ≡ v k) → joined w u n ≡ joined w v n
 unfolding joined
 joined-same w u v zero h = refl
-joined-same w u v (suc n) h =
-    ap₂ (λ (a b : ℕ). a * 2 ^ w n + b) (joined-same w u v n (λ k l. h k (omega arith))) (h n (omega arith))
+joined-same w u v (suc n) h = rw (joined-same w u v n (λ k l. h k (omega arith)), h n (omega arith))
 
 pub joined-next : (w v : ℕ → ℕ) (n : ℕ) → joined w v (n + 1) ≡ joined w v n * 2 ^ w n + v n
 unfolding joined

@@ -1,7 +1,7 @@
 -- The spare bits: they are what stands past the fields' bits, and one is set exactly when their group is not 0.
 use mathlib.Core.Path.{_≡_, refl, ap, sym, _∙_}
 use mathlib.Core.Bool.{Bool, true, false}
-use mathlib.Core.List.{List, _∷_, _++_}
+use mathlib.Core.List.{List, _∷_}
 use mathlib.Core.Logic.{_↔_}
 use Prim.Native.Nat.{ℕ, zero, suc, _+_, _/_, _%_, _^_, _<_}
 use native.Mathlib.Nat.{div-lt-iff-lt-mul, zero-div, one-mul}
@@ -56,26 +56,18 @@ strung-length w v (suc n) = rw (length-append, strung-length w v n, bits-length 
 -- past the bits of n groups stand those of the next
 next-group : (w v : ℕ → ℕ) (n j : ℕ) → nth (strung w v (suc n)) (starts w n + j) ≡ nth (bitsOf (w n) (v n)) j
 unfolding strung
-next-group w v n j =
-    ap (λ (k : ℕ). nth (strung w v n ++ bitsOf (w n) (v n)) (k + j)) (sym (strung-length w v n))
-    ∙ getD-append-add (strung w v n) (bitsOf (w n) (v n)) j 0
+next-group w v n j = rw (← strung-length w v n) (getD-append-add (strung w v n) (bitsOf (w n) (v n)) j 0)
 
 module _ (bytes : List ℕ) (small : Bytes bytes) where
   past-fields : (j : ℕ) → nth (bitsOfBytes bytes) (starts width count + j) ≡ nth (bitsOf (width count) (nth (groupsOf bytes) count)) j
-  past-fields j =
-      ap (λ (l : List ℕ). nth l (starts width count + j)) (packed bytes small) ∙ next-group width (nth (groupsOf bytes)) count j
-
-  set-not-zero : SpareSet bytes → nth (groupsOf bytes) count ≡ 0 → ⊥
-  set-not-zero s z =
-      let e : nth (bitsOf (width count) 0) (s .place) ≡ 1 = rw z at (sym (past-fields (s .place)) ∙ s .set) in
-      omega (arith, no-bit (width count) (s .place))
-
-  not-zero-set : (nth (groupsOf bytes) count ≡ 0 → ⊥) → SpareSet bytes
-  unfolding Narrow
-  not-zero-set n =
-      let b = some-bit (width count) (nth (groupsOf bytes) count) (groups-narrow bytes count (omega arith)) n in
-      record { place = b .0; set = past-fields (b .0) ∙ b .1 }
+  past-fields j = rw (packed bytes small) (next-group width (nth (groupsOf bytes)) count j)
 
   -- a spare bit is set exactly when their group is not 0
   pub spare-set : SpareSet bytes ↔ (nth (groupsOf bytes) count ≡ 0 → ⊥)
-  spare-set = (set-not-zero, not-zero-set)
+  unfolding Narrow
+  spare-set = (
+    (λ s z. let e : nth (bitsOf (width count) 0) (s .place) ≡ 1 = rw z at (sym (past-fields (s .place)) ∙ s .set) in
+        omega (arith, no-bit (width count) (s .place))),
+    (λ n. let b = some-bit (width count) (nth (groupsOf bytes) count) (groups-narrow bytes count (omega arith)) n in
+        record { place = b .0; set = past-fields (b .0) ∙ b .1 }),
+  )

@@ -45,6 +45,7 @@ module _ (bytes : List ℕ) (byte : (k : ℕ) → nth bytes k < 256) where
   pub record Full (found : List ℕ) (full : Between) (i w : ℕ) : Type 0 where
     pub mid : Mid eight (nth bytes) width (nth found) (4 * full .words) i (full .held .bits) (full .held .n)
     pub enough : w ≤ full .held .n
+    pub narrow : w ≤ 20
     pub few : full .held .n < w + 32
     pub whole : length found ≡ count
 
@@ -59,12 +60,13 @@ module _ (bytes : List ℕ) (byte : (k : ℕ) → nth bytes k < 256) where
           record {
             mid = mid-word found (between .words) i _ _ (s .mid);
             enough = omega arith;
+            narrow = small;
             few = omega (arith, ltb-true (between .held .n) w t);
             whole = s .whole;
           }
       go false t =
           rw (e, t)
-          record { mid = s .mid; enough = ltb-false (between .held .n) w t; few = omega (arith, s .few); whole = s .whole }
+          record { mid = s .mid; enough = ltb-false (between .held .n) w t; narrow = small; few = omega (arith, s .few); whole = s .whole }
 
   -- one group more
   pub split-one : (found : List ℕ) (full : Between) (i w x : ℕ) (rest : Held) → Full found full i w → w ≡ width i → i < count

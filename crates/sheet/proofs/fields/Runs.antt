@@ -1,10 +1,13 @@
 -- The search for the first place where a test holds, by steps and by runs of places.
-use mathlib.Core.Path.{_≡_, refl, _∙_}
+use mathlib.Core.Path.{_≡_, refl}
 use mathlib.Core.Bool.{Bool, true, false}
 use Prim.Native.Nat.{ℕ, zero, suc, _+_, _-_, _<_, _≤_}
 use native.Mathlib.Nat.{add-zero, zero-add, suc-add, add-suc}
 use native.Mathlib.Numerals.{add-one}
 use native.Mathlib.Omega.{arith}
+use borrow.Author.Tests.{ne-eqb}
+use lib.Dec.{eqb}
+use Rattle.laws.specs.Choice.{if_then_else_}
 use Rattle.laws.specs.First.{firstFrom}
 
 module _ (test : ℕ → Bool) where
@@ -21,26 +24,17 @@ module _ (test : ℕ → Bool) where
   unfolding firstFrom
   first-on i to h t = let e : to - i ≡ suc (to - (i + 1)) = omega arith in rw (e, t, add-one)
 
-  -- a run of n places that has none, and one that has the first
-  pub past-run : (i n m : ℕ) → firstFrom test i n ≡ 0 → firstFrom test i (n + m) ≡ firstFrom test (i + n) m
+  -- a run of n places and m more: the first is that of the run, or past it where it has none
+  pub past-run : (i n m : ℕ) → firstFrom test i (n + m) ≡ (if eqb (firstFrom test i n) 0 then firstFrom test (i + n) m else firstFrom test i n)
   unfolding firstFrom
-  past-run i zero m e = rw (zero-add, add-zero)
-  past-run i (suc n) m e = go (test i) refl (past-run (suc i) n m)
+  past-run i zero m = rw (zero-add, add-zero)
+  past-run i (suc n) m = go (test i) refl (past-run (suc i) n m)
     where
-      go : (b : Bool) → test i ≡ b → (firstFrom test (suc i) n ≡ 0 → firstFrom test (suc i) (n + m) ≡ firstFrom test (suc i + n) m)
-          → firstFrom test i (suc n + m) ≡ firstFrom test (i + suc n) m
-      go true t on = let z : suc i ≡ 0 = rw t at e in absurd (omega arith)
-      go false t on = rw (suc-add, t) (on (rw t at e) ∙ rw (suc-add, add-suc))
-
-  pub in-run : (i n m r : ℕ) → r ≡ firstFrom test i n → (r ≡ 0 → ⊥) → r ≡ firstFrom test i (n + m)
-  unfolding firstFrom
-  in-run i zero m r e some = absurd (some e)
-  in-run i (suc n) m r e some = go (test i) refl (in-run (suc i) n m r)
-    where
-      go : (b : Bool) → test i ≡ b → (r ≡ firstFrom test (suc i) n → (r ≡ 0 → ⊥) → r ≡ firstFrom test (suc i) (n + m))
-          → r ≡ firstFrom test i (suc n + m)
-      go true t on = rw (suc-add, t) (rw t at e)
-      go false t on = rw (suc-add, t) (on (rw t at e) some)
+      go : (b : Bool) → test i ≡ b
+          → firstFrom test (suc i) (n + m) ≡ (if eqb (firstFrom test (suc i) n) 0 then firstFrom test (suc i + n) m else firstFrom test (suc i) n)
+          → firstFrom test i (suc n + m) ≡ (if eqb (firstFrom test i (suc n)) 0 then firstFrom test (i + suc n) m else firstFrom test i (suc n))
+      go true t on = rw (suc-add, t, ne-eqb (suc i) 0 (λ e. omega arith))
+      go false t on = rw (suc-add, t, on, suc-add, add-suc)
 
 -- two tests that agree below a place find the same before it
 pub same-run : (test other : ℕ → Bool) (end : ℕ) → ((k : ℕ) → k < end → test k ≡ other k) → (i n : ℕ) → i + n ≤ end

@@ -1,10 +1,7 @@
 -- A level and its two figures.
 use mathlib.Core.Path.{_≡_, refl, sym}
-use mathlib.Core.Bool.{Bool, true, false}
-use Prim.Native.Nat.{ℕ, _≤_}
+use Prim.Native.Nat.{ℕ, zero, suc, _≤_}
 use native.Mathlib.Omega.{arith}
-use borrow.Author.Tests.{eqb-true, eqb-false}
-use lib.Dec.{eqb}
 use Rattle.sheet.specs.Sheets.{levelSourceOf, sourceFigure, levelFigure}
 use Rattle.sheet.specs.declared.LevelSource.{LevelSource}
 use Rattle.sheet.specs.declared.LevelSource.the-variants.{FromRecord, Given}
@@ -22,12 +19,6 @@ pub record FiguresBack (source level : ℕ) : Type 0 where
 
 pub figures-back : (source level : ℕ) → source ≤ 1 → (source ≡ 0 → level ≡ 0) → FiguresBack source level
 unfolding levelSourceOf
-figures-back source level h none = go (eqb source 0) refl
-  where
-    go : (b : Bool) → eqb source 0 ≡ b → FiguresBack source level
-    go true e =
-        let z : source ≡ 0 = eqb-true source 0 e in
-        record { source-back = rw e (sym z); level-figure-back = rw e (sym (none z)) }
-    go false e =
-        let n : source ≡ 0 → ⊥ = eqb-false source 0 e in
-        record { source-back = rw e (let o : 1 ≡ source = omega arith in o); level-figure-back = rw e refl }
+figures-back zero level h none = record { source-back = refl; level-figure-back = sym (none refl) }
+figures-back (suc zero) level h none = record { source-back = refl; level-figure-back = refl }
+figures-back (suc (suc n)) level h none = absurd (omega arith)

@@ -1,6 +1,6 @@
 -- What figures make: a sheet whose figures they are, or the first bad field.
-use mathlib.Core.Path.{_≡_, refl, ap, sym, _∙_}
-use mathlib.Core.Bool.{Bool, true, false, _&&_, false≢true}
+use mathlib.Core.Path.{_≡_, refl, sym, _∙_}
+use mathlib.Core.Bool.{Bool, true, false}
 use mathlib.Core.List.{List}
 use mathlib.Core.Logic.{_↔_}
 use Prim.Native.Nat.{ℕ}
@@ -35,35 +35,19 @@ module _ (v : List ℕ) (k : ℕ) (f : k ≡ firstBad v) where
   unfolding sheetFrom
   from-good s h g = rw (← f, eq-eqb k 0 h, g)
 
--- the greatest bed and the greatest source
-bed-greatest : greatest 5 ≡ 3000
-unfolding greatest fieldAt fields
-bed-greatest = refl
-
-source-greatest : greatest 26 ≡ 1
-unfolding greatest fieldAt fields
-source-greatest = refl
-
 pub sheet-of-figures : (s : Sheet) → Valid s → sheetOf (figuresOf s) ≡ s
-unfolding Valid sheetOf figuresOf
-sheet-of-figures s e =
-    rw (bed-back (s .bed) (omega (arith, fine (figuresOf s) e 5 (omega arith) .high, bed-greatest)), level-back (s .level))
-
-and-false : (a b : Bool) → (a && b) ≡ false → a ≡ true → b ≡ false
-and-false true b e h = e
-and-false false b e h = absurd (false≢true h)
+unfolding Valid sheetOf figuresOf greatest fieldAt fields
+sheet-of-figures s e = rw (bed-back (s .bed) (fine (figuresOf s) e 5 (omega arith) .high), level-back (s .level))
 
 no-level : (v : List ℕ) → pairBad v 27 ≡ false → nth v 26 ≡ 0 → nth v 27 ≡ 0
 unfolding pairBad
-no-level v p h = eqb-true (nth v 27) 0 (not-false _ (and-false (eqb (nth v 26) 0) _ p (eq-eqb (nth v 26) 0 h)))
+no-level v p h = eqb-true (nth v 27) 0 (not-false _ (rw (eq-eqb (nth v 26) 0 h) at p))
 
 -- figures of which none is bad are those of their sheet
 pub figures-of-sheet : (v : List ℕ) → firstBad v ≡ 0 → figuresOf (sheetOf v) ≡ onlyFields v
-unfolding sheetOf figuresOf bedFigure listed
+unfolding sheetOf figuresOf bedFigure listed greatest fieldAt fields
 figures-of-sheet v e =
-    let source = fine v e 26 (omega arith) in
-    let level = fine v e 27 (omega arith) in
-    let b = figures-back (nth v 26) (nth v 27) (omega (arith, source-greatest)) (no-level v (level .pair)) in
+    let b = figures-back (nth v 26) (nth v 27) (fine v e 26 (omega arith) .high) (no-level v (fine v e 27 (omega arith) .pair)) in
     rw (b .source-back, b .level-figure-back)
 
 pub valid-sheet : (v : List ℕ) → firstBad v ≡ 0 → Valid (sheetOf v)
@@ -75,39 +59,28 @@ pub from-figures : (s : Sheet) → Valid s → sheetFrom (figuresOf s) ≡ Good 
 unfolding Valid
 from-figures s e = sym (from-good (figuresOf s) 0 (sym e) s refl (sym (sheet-of-figures s e)))
 
--- a sheet that figures make passed their tests
-pub record Made (v : List ℕ) (s : Sheet) : Type 0 where
-  pub none : firstBad v ≡ 0
-  pub sheet : sheetOf v ≡ s
-
-pub made : (v : List ℕ) (s : Sheet) → sheetFrom v ≡ Good s → Made v s
-unfolding sheetFrom
-made v s e = go (eqb (firstBad v) 0) refl e
-  where
-    go : (n : Bool) → eqb (firstBad v) 0 ≡ n → (if n then Good (sheetOf v) else NoSheet (BadField (firstBad v))) ≡ Good s → Made v s
-    go true r e = record { none = eqb-true _ _ r; sheet = cc }
-    go false r e = never cc
-
--- and its figures are those
-pub figures-of-made : (v : List ℕ) (s : Sheet) → length v ≡ count → sheetFrom v ≡ Good s → figuresOf s ≡ v
-figures-of-made v s l e =
-    let m = made v s e in
-    ap figuresOf (sym (m .sheet)) ∙ figures-of-sheet v (m .none) ∙ sym (listed-is (nth v) count v l (λ k h. refl))
-
--- what figures make: 3 with k exactly when k is the least bad field, and a sheet exactly when there is none
-module _ (v : List ℕ) where
-  from-cases : (P : SheetRead → Type 0) → (firstBad v ≡ 0 → P (Good (sheetOf v)))
-      → ((firstBad v ≡ 0 → ⊥) → P (NoSheet (BadField (firstBad v)))) → P (sheetFrom v)
+-- the two ways of making: what is so of each is so of its answer
+module _ (v : List ℕ) (P : SheetRead → Type 0) where
+  pub from-cases : (firstBad v ≡ 0 → P (Good (sheetOf v))) → ((firstBad v ≡ 0 → ⊥) → P (NoSheet (BadField (firstBad v)))) → P (sheetFrom v)
   unfolding sheetFrom
-  from-cases P fine named = go (eqb (firstBad v) 0) refl
+  from-cases fine named = go (eqb (firstBad v) 0) refl
     where
       go : (b : Bool) → eqb (firstBad v) 0 ≡ b → P (if b then Good (sheetOf v) else NoSheet (BadField (firstBad v)))
       go true e = fine (eqb-true (firstBad v) 0 e)
       go false e = named (eqb-false (firstBad v) 0 e)
 
+-- a sheet that figures make has those figures
+pub figures-of-made : (v : List ℕ) (s : Sheet) → length v ≡ count → sheetFrom v ≡ Good s → figuresOf s ≡ v
+figures-of-made v s l =
+    from-cases v (λ r. r ≡ Good s → figuresOf s ≡ v)
+    (λ none e. let sheet : s ≡ sheetOf v = cc in rw sheet (figures-of-sheet v none ∙ sym (listed-is (nth v) count v l (λ k h. refl))))
+    (λ some e. never cc)
+
+-- what figures make: 3 with k exactly when k is the least bad field, and a sheet exactly when there is none
+module _ (v : List ℕ) where
   pub from-named-exactly : (k : ℕ) → ((readNumber (sheetFrom v) ≡ 3) × (readField (sheetFrom v) ≡ k)) ↔ Least (Bad v) k
   from-named-exactly k =
-      from-cases (λ (r : SheetRead). ((readNumber r ≡ 3) × (readField r ≡ k)) ↔ Least (Bad v) k)
+      from-cases v (λ (r : SheetRead). ((readNumber r ≡ 3) × (readField r ≡ k)) ↔ Least (Bad v) k)
       (λ none. (
         (λ e. absurd (omega (arith, e .0))),
         (λ l. absurd (none-bad v .0 none k (l .holds))),
@@ -119,7 +92,7 @@ module _ (v : List ℕ) where
 
   pub from-good-exactly : ((s : Sheet) × (sheetFrom v ≡ Good s)) ↔ ((k : ℕ) → ¬ Bad v k)
   from-good-exactly =
-      from-cases (λ (r : SheetRead). ((s : Sheet) × (r ≡ Good s)) ↔ ((k : ℕ) → ¬ Bad v k))
+      from-cases v (λ (r : SheetRead). ((s : Sheet) × (r ≡ Good s)) ↔ ((k : ℕ) → ¬ Bad v k))
       (λ none. (
         (λ g. none-bad v .0 none),
         (λ h. (sheetOf v, refl)),

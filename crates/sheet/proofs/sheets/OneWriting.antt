@@ -1,29 +1,26 @@
 -- A written sheet is read back, and each sheet has one writing.
 use mathlib.Core.Path.{_≡_, refl, ap, sym, _∙_}
-use mathlib.Core.Bool.{Bool, true, false}
 use mathlib.Core.List.{List}
 use Prim.Native.Nat.{ℕ, _≤_}
 use native.Mathlib.Omega.{arith}
 use borrow.Author.Count.{below-more}
-use borrow.Author.Tests.{eq-eqb, eqb-true, le-ltb}
-use lib.Dec.{eqb}
+use borrow.Author.Tests.{eq-eqb, le-ltb}
 use lib.ListN.{length, take, drop}
 use lib.Seq.{take-at}
 use Rattle.laws.proofs.Never.{never}
-use Rattle.laws.specs.Choice.{if_then_else_}
 use Rattle.sheet.specs.Bits.{cut}
 use Rattle.sheet.specs.Fields.{groups, count, width, nth, firstBad}
 use Rattle.sheet.specs.Packing.{size, eight, listed, groupsOf, bytesOf, Bytes}
-use Rattle.sheet.specs.Sheets.{sheetOf, figuresOf, sheetFrom, readGroups, readOf, placeOf, Valid, Written}
+use Rattle.sheet.specs.Sheets.{sheetOf, figuresOf, readOf, placeOf, Valid, Written}
 use Rattle.sheet.specs.declared.Sheet.{Sheet}
-use Rattle.sheet.specs.declared.SheetRead.the-variants.{Good, NoSheet}
-use Rattle.sheet.specs.declared.ReadFault.the-variants.{WrongLength, SpareBitSet}
+use Rattle.sheet.specs.declared.SheetRead.the-variants.{Good}
 use Rattle.sheet.proofs.bits.Regroup.{joined-same, listed-length}
 use Rattle.sheet.proofs.bits.RoundTrip.{groups-of-bytes, bytes-of-groups}
 use Rattle.sheet.proofs.figures.SameFields.{onlyFields, only-fields-at, sheet-from-same}
-use Rattle.sheet.proofs.sheets.Making.{figures-of-sheet, valid-sheet, from-figures, made}
+use Rattle.sheet.proofs.sheets.Making.{figures-of-sheet, valid-sheet, from-figures}
 use Rattle.sheet.proofs.sheets.Valid.{fine-narrow, figures-end, figures-spare}
 use Rattle.sheet.proofs.sheets.Answers.{read-from}
+use Rattle.sheet.proofs.sheets.Reading.{read-cases}
 
 pub bytes-length : (v : List ℕ) → length (bytesOf v) ≡ size
 unfolding bytesOf
@@ -47,19 +44,9 @@ pub record Accepted (b : List ℕ) (s : Sheet) : Type 0 where
   pub sheet : sheetOf (groupsOf b) ≡ s
 
 pub accepted : (b : List ℕ) (s : Sheet) → readOf b ≡ Good s → Accepted b s
-unfolding readOf readGroups
-accepted b s e = go (eqb (length b) size) (eqb (nth v count) 0) refl refl e
-  where
-    v : List ℕ
-    v = groupsOf b
-
-    go : (l z : Bool) → eqb (length b) size ≡ l → eqb (nth v count) 0 ≡ z
-        → (if l then (if z then sheetFrom v else NoSheet SpareBitSet) else NoSheet WrongLength) ≡ Good s → Accepted b s
-    go true true p q e =
-        let m = made v s e in
-        record { long = eqb-true _ _ p; spare = eqb-true _ _ q; none = m .none; sheet = m .sheet }
-    go true false p q e = never cc
-    go false z p q e = never cc
+accepted b s =
+    read-cases b (λ r. r ≡ Good s → Accepted b s) (λ h e. never cc) (λ l z e. never cc) (λ k l z f n e. never cc)
+    (λ l z f e. record { long = l; spare = z; none = f; sheet = cc })
 
 pub read-valid : (b : List ℕ) (s : Sheet) → readOf b ≡ Good s → Valid s
 read-valid b s e = let a = accepted b s e in rw (← a .sheet) (valid-sheet (groupsOf b) (a .none))

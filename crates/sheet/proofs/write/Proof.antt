@@ -7,9 +7,6 @@ use borrow.Author.Needs.{needs}
 use Rattle.sheet.proofs.write.Statement.{statement}
 use Rattle.sheet.proofs.write.Tie as tie
 
-returns : tie.Need-returns
-returns c = write-small _ _ (c .if1 .taken)
-
 returns-2 : tie.Need-returns-2
 returns-2 c =
     write-bad _ _ _ _ (c .before .before .before .if1 .left) (c .before .before .figures-of .ensures) (c .before .first-bad .ensures) (c .if2 .taken)
@@ -30,7 +27,7 @@ pub write-spec : {M : Type 1} → statement M
 write-spec =
     tie.close
     (tie.spec
-    returns
+    (λ c. write-small _ _ (c .if1 .taken))
     (λ c κs. search needs)
     (λ c κs. search needs)
     returns-2

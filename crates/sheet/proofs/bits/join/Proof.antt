@@ -34,9 +34,6 @@ Inv-loop given place₀ held₀ at₀ i₀ place held at i = Mid width (nth give
 abbrev μ-loop : tie.MeasureT-loop
 μ-loop given place₀ held₀ at₀ i₀ place held at i = groups - i
 
-loop-holds : tie.Need-loop-holds Inv-loop2 μ-loop2 Inv-loop μ-loop
-loop-holds c = (mid-start _ _ _ _, omega arith, omega arith, record { same = refl; tail = refl })
-
 put-requires : tie.Need-put-requires Inv-loop2 μ-loop2 Inv-loop μ-loop
 unfolding Narrow
 put-requires c κs =
@@ -56,32 +53,24 @@ loop2-holds c =
       record { same = refl; tail = refl },
     )
 
+-- a byte that is stored is one of the 28
+in-sheet : (c : tie.Then1 Inv-loop2 μ-loop2 Inv-loop μ-loop) → c .before .before .loop2 .at < 28
+in-sheet c =
+    let d = c .before .before in
+    let i = d .before .before .before .before .before .loop .i in
+    omega (arith, starts-eight (d .loop2 .at), starts-le width (i + 1) groups (omega arith), starts-width)
+
 cast-place : tie.Need-cast-place Inv-loop2 μ-loop2 Inv-loop μ-loop
 cast-place c =
     let d = c .before .before .before in
     record { fits = rw (c .first .ensures) (first-lt (d .loop2 .held .bits) (d .loop2 .held .n) 8 (d .loop2 .inv .0 .tail .low) (omega arith)) }
-
-slice-write-place : tie.Need-slice-write-place Inv-loop2 μ-loop2 Inv-loop μ-loop
-slice-write-place c =
-    let d = c .before .before .before in
-    let i = d .before .before .before .before .before .loop .i in
-    omega (arith, starts-eight (d .loop2 .at), starts-le width (i + 1) groups (omega arith), starts-width)
-
-add-at : tie.Need-add-at Inv-loop2 μ-loop2 Inv-loop μ-loop
-add-at c =
-    let d = c .before .before .before .before in
-    let i = d .before .before .before .before .before .loop .i in
-    omega (arith, starts-eight (d .loop2 .at), starts-le width (i + 1) groups (omega arith), starts-width)
-
-loop2-less : tie.Need-loop2-less Inv-loop2 μ-loop2 Inv-loop μ-loop
-loop2-less c = omega (arith, c .rest .ensures .1)
 
 loop2-again : tie.Need-loop2-again Inv-loop2 μ-loop2 Inv-loop μ-loop
 loop2-again c =
     let d = c .before .before .before .before in
     let o = d .before .before .before .before .before in
     let i = o .loop .i in
-    let l : d .loop2 .at < 28 = omega (arith, starts-eight (d .loop2 .at), starts-le width (i + 1) groups (omega arith), starts-width) in (
+    let l = in-sheet (c .before .before) in (
       mid-set width _ eight (d .loop2 .place) (i + 1) (d .loop2 .at) (d .loop2 .held .bits) (d .loop2 .held .n) 8 (c .before .first .result)
           (c .rest .result .bits) (c .rest .result .n) (d .loop2 .inv .0) refl (omega arith) (omega arith) (c .before .first .ensures)
           (c .rest .ensures .0) (c .rest .ensures .1),
@@ -125,17 +114,17 @@ join-spec =
     μ-loop2
     Inv-loop
     μ-loop
-    loop-holds
+    (λ c. (mid-start _ _ _ _, omega arith, omega arith, record { same = refl; tail = refl }))
     (λ c κs. search needs)
     (λ c κs. search needs)
     put-requires
     loop2-holds
     (λ c κs. search needs)
     cast-place
-    slice-write-place
+    (λ c. let h = in-sheet (c .before) in omega arith)
     (λ c κs. search needs)
-    add-at
-    loop2-less
+    (λ c. let h = in-sheet (c .before .before) in omega arith)
+    (λ c. omega (arith, c .rest .ensures .1))
     loop2-again
     (λ c. search needs)
     (λ c. search needs)

@@ -17,12 +17,9 @@ Inv-loop bytes figures₀ from to between₀ i₀ figures between i = SplitTo by
 abbrev μ-loop : tie.MeasureT-loop
 μ-loop bytes figures₀ from to between₀ i₀ figures between i = to - i
 
--- the group is one, and not wide
+-- the group is one
 in-table : (c : tie.In-loop Inv-loop μ-loop) → c .before .loop .i < count
 in-table c = omega (arith, c .before .before .before .pre .1 .1)
-
-narrow : (c : tie.After-width-of Inv-loop μ-loop) → c .width-of .result ≤ 20
-narrow c = omega (arith, width-le (c .before .before .loop .i) (let h = in-table (c .before) in omega arith))
 
 -- what is known past the filling
 full : (c : tie.After-filled Inv-loop μ-loop)
@@ -31,14 +28,9 @@ full : (c : tie.After-filled Inv-loop μ-loop)
     (c .before .before .before .loop .figures) (c .filled .result) (c .before .before .before .loop .i) (c .before .width-of .result)
 full c =
     let l = c .before .before .before .loop in
-    full-is _ _ (l .figures) (l .between) (c .filled .result) (l .i) (c .before .width-of .result) (narrow (c .before)) (l .inv .0)
-    (c .filled .ensures)
-
-loop-holds : tie.Need-loop-holds Inv-loop μ-loop
-loop-holds c = (c .before .pre .1 .0, c .before .pre .1 .1 .0)
-
-width-of-requires : tie.Need-width-of-requires Inv-loop μ-loop
-width-of-requires c κs = let h = in-table c in omega arith
+    let h = in-table (c .before .before) in
+    full-is _ _ (l .figures) (l .between) (c .filled .result) (l .i) (c .before .width-of .result) (omega (arith, width-le (l .i) (omega arith)))
+    (l .inv .0) (c .filled .ensures)
 
 filled-requires : tie.Need-filled-requires Inv-loop μ-loop
 filled-requires c κs =
@@ -52,34 +44,11 @@ filled-requires c κs =
       ),
     )
 
-first-requires : tie.Need-first-requires Inv-loop μ-loop
-first-requires c κs =
-    let f = full (c .before) in
-    let w = narrow (c .before .before) in
-    (f .enough, omega (arith, f .few))
-
 cast-figures : tie.Need-cast-figures Inv-loop μ-loop
 cast-figures c =
     let f = full (c .before .before) in
     let held = c .before .before .filled .result .held in
-    let w = c .before .before .before .width-of .result in
-    record {
-      fits =
-          omega (
-            arith,
-            first-fits (held .bits) (held .n) w (c .first .result) (f .mid .tail .low) (f .enough) (narrow (c .before .before .before))
-                (c .first .ensures),
-          );
-    }
-
-element-write-figures : tie.Need-element-write-figures Inv-loop μ-loop
-element-write-figures c = in-table (c .before .before .before .before)
-
-rest-requires : tie.Need-rest-requires Inv-loop μ-loop
-rest-requires c κs =
-    let f = full (c .before .before) in
-    let w = narrow (c .before .before .before) in
-    (f .enough, omega (arith, f .few))
+    record { fits = omega (arith, first-fits (held .bits) (held .n) _ (c .first .result) (f .mid .tail .low) (f .enough) (f .narrow) (c .first .ensures)) }
 
 loop-again : tie.Need-loop-again Inv-loop μ-loop
 loop-again c =
@@ -102,14 +71,14 @@ split-on-spec =
     (tie.spec
     Inv-loop
     μ-loop
-    loop-holds
-    width-of-requires
+    (λ c. (c .before .pre .1 .0, c .before .pre .1 .1 .0))
+    (λ c κs. let h = in-table c in omega arith)
     filled-requires
-    first-requires
+    (λ c κs. let f = full (c .before) in (f .enough, omega (arith, f .few, f .narrow)))
     cast-figures
     (λ c. search needs)
-    element-write-figures
-    rest-requires
+    (λ c. in-table (c .before .before .before .before))
+    (λ c κs. let f = full (c .before .before) in (f .enough, omega (arith, f .few, f .narrow)))
     (λ c. search needs)
     (λ c. search needs)
     loop-again

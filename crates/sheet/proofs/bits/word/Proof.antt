@@ -5,11 +5,8 @@ use borrow.Author.Needs.{needs}
 use Rattle.sheet.proofs.bits.word.Statement.{statement}
 use Rattle.sheet.proofs.bits.word.Tie as tie
 
-returns : tie.Need-returns
-unfolding wordAt
-returns c = omega arith
-
 pub word-spec : {M : Type 1} → statement M
+unfolding wordAt
 word-spec =
     tie.close
     (tie.spec
@@ -24,4 +21,4 @@ word-spec =
     (λ c κs. search needs)
     (λ c. search needs)
     (λ c. search needs)
-    returns)
+    (λ c. omega arith))

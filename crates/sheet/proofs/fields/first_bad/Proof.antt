@@ -16,27 +16,21 @@ passed-17 c = passed-run _ 9 17 _ (omega arith) (omega arith) (passed-9 (c .befo
 passed-25 : (c : tie.Else3) → Passed (c .before .before .before .before .before .before .args .figures) 25
 passed-25 c = passed-run _ 17 25 _ (omega arith) (omega arith) (passed-17 (c .before .before)) (c .before .first-outside3 .ensures) (c .if3 .left)
 
-returns : tie.Need-returns
-returns c = passed-run-bad _ 0 9 _ (omega arith) (omega arith) (passed-none _) (c .before .first-outside .ensures) (c .if1 .taken)
-
 returns-2 : tie.Need-returns-2
 returns-2 c = passed-run-bad _ 9 17 _ (omega arith) (omega arith) (passed-9 (c .before .before)) (c .before .first-outside2 .ensures) (c .if2 .taken)
 
 returns-3 : tie.Need-returns-3
 returns-3 c = passed-run-bad _ 17 25 _ (omega arith) (omega arith) (passed-17 (c .before .before)) (c .before .first-outside3 .ensures) (c .if3 .taken)
 
-returns-4 : tie.Need-returns-4
-returns-4 c = c .first-bad-from .ensures ∙ passed-25 (c .before) .same
-
 pub first-bad-spec : {M : Type 1} → statement M
 first-bad-spec =
     tie.close
     (tie.spec
     (λ c κs. search needs)
-    returns
+    (λ c. passed-run-bad _ 0 9 _ (omega arith) (omega arith) (passed-none _) (c .before .first-outside .ensures) (c .if1 .taken))
     (λ c κs. search needs)
     returns-2
     (λ c κs. search needs)
     returns-3
     (λ c κs. search needs)
-    returns-4)
+    (λ c. c .first-bad-from .ensures ∙ passed-25 (c .before) .same))

@@ -28,11 +28,8 @@ loop-again c =
     sym (first-on (badAt _) (l .loop .at) count (omega arith) (sym (c .before .bad-at .ensures) ∙ c .if1 .left))
     ∙ l .loop .inv
 
-returns-2 : tie.Need-returns-2 Inv-loop μ-loop
-unfolding firstBadFrom
-returns-2 c = first-end (badAt _) (c .before .loop .at) count (omega arith) ∙ c .before .loop .inv
-
 pub first-bad-from-spec : {M : Type 1} → statement M
+unfolding firstBadFrom
 first-bad-from-spec =
     tie.close
     (tie.spec
@@ -46,4 +43,4 @@ first-bad-from-spec =
     (λ c. search needs)
     (λ c. search needs)
     loop-again
-    returns-2)
+    (λ c. first-end (badAt _) (c .before .loop .at) count (omega arith) ∙ c .before .loop .inv))

@@ -28,11 +28,8 @@ loop-again c =
     sym (first-on (outsideAt _) (l .loop .i) (l .before .args .to) (omega arith) (sym (c .before .outside .ensures) ∙ c .if1 .left))
     ∙ l .loop .inv
 
-returns-2 : tie.Need-returns-2 Inv-loop μ-loop
-unfolding firstOutside
-returns-2 c = first-end (outsideAt _) (c .before .loop .i) (c .before .before .args .to) (omega arith) ∙ c .before .loop .inv
-
 pub first-outside-spec : {M : Type 1} → statement M
+unfolding firstOutside
 first-outside-spec =
     tie.close
     (tie.spec
@@ -46,4 +43,4 @@ first-outside-spec =
     (λ c. search needs)
     (λ c. search needs)
     loop-again
-    returns-2)
+    (λ c. first-end (outsideAt _) (c .before .loop .i) (c .before .before .args .to) (omega arith) ∙ c .before .loop .inv))

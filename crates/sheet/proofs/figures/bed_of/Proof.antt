@@ -8,8 +8,5 @@ use Rattle.datum.specs.Datum.{belowChart}
 use Rattle.sheet.proofs.figures.bed_of.Statement.{statement}
 use Rattle.sheet.proofs.figures.bed_of.Tie as tie
 
-returns : tie.Need-returns
-returns c = ap belowChart (toZ-pos w32 (omega arith))
-
 pub bed-of-spec : {M : Type 1} → statement M
-bed-of-spec = tie.close (tie.spec (λ c. search needs) returns)
+bed-of-spec = tie.close (tie.spec (λ c. search needs) (λ c. ap belowChart (toZ-pos w32 (omega arith))))

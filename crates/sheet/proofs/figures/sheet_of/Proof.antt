@@ -7,12 +7,6 @@ use Rattle.sheet.proofs.figures.Types.{held}
 use Rattle.sheet.proofs.figures.sheet_of.Statement.{statement}
 use Rattle.sheet.proofs.figures.sheet_of.Tie as tie
 
-cast-bed-of : tie.Need-cast-bed-of
-cast-bed-of c = record { fits = held _ (c .pre) 5 (lit< tt) }
-
-cast-level-source : tie.Need-cast-level-source
-cast-level-source c = record { fits = held _ (c .before .pre) 27 (lit< tt) }
-
 returns : tie.Need-returns
 unfolding sheetOf
 returns c = c .sheet-with .ensures ∙ ap₂ (sheetWith (c .before .before .before .args .t1)) (c .before .before .bed-of .ensures) (c .before .level-source .ensures)
@@ -22,11 +16,11 @@ sheet-of-spec =
     tie.close
     (tie.spec
     (λ c. search needs)
-    cast-bed-of
+    (λ c. record { fits = held _ (c .pre) 5 (lit< tt) })
     (λ c κs. search needs)
     (λ c. search needs)
     (λ c. search needs)
-    cast-level-source
+    (λ c. record { fits = held _ (c .before .pre) 27 (lit< tt) })
     (λ c κs. search needs)
     (λ c κs. search needs)
     returns)
