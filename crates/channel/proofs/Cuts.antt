@@ -6,7 +6,7 @@ use Prim.Native.Nat.{ℕ, zero, suc, _+_, _-_, _*_, _≤_, _<_, min}
 use native.Mathlib.Omega.{arith}
 use borrow.Author.Tests.{leb-true, leb-false}
 use lib.Dec.{leb}
-use lib.ListN.{length, take, drop, length-append, length-drop, take-append-drop}
+use lib.ListN.{length, take, drop, length-append, length-drop, take-append-drop, drop-of-length-le}
 use lib.Seq.{take-append-le, drop-append-le, take-all, drop-drop}
 use Rattle.laws.specs.Rounding.{up}
 use Rattle.channel.specs.Text.{firstSheets, sheetsOf}
@@ -24,10 +24,6 @@ next-sheet input some =
 pub no-sheet : (input : List ℕ) → length input ≡ 0 → sheetsOf input ≡ []
 unfolding sheetsOf firstSheets
 no-sheet input none = let zero-up : up (length input) 28 ≡ 0 = omega arith in counted (up (length input) 28) 0 input zero-up
-
-pub empty : (l : List ℕ) → length l ≡ 0 → l ≡ []
-empty [] e = refl
-empty (x ∷ l) e = absurd (omega arith)
 
 -- the sheet at a place of a block, by its two ends, and then those behind it
 module _ (block : List ℕ) (from to : ℕ) (some : from < length block) (t : to ≡ from + min 28 (length block - from)) where
@@ -61,7 +57,7 @@ module _ (block : List ℕ) (from to : ℕ) (some : from < length block) (t : to
 -- in two parts, the first of m whole sheets
 pub in-two : (m : ℕ) (first second : List ℕ) → length first ≡ 28 * m → sheetsOf (first ++ second) ≡ sheetsOf first ++ sheetsOf second
 in-two zero first second e =
-    rw (empty first (omega arith), no-sheet [] refl)
+    rw (drop-of-length-le first {i = 0} (omega arith), no-sheet [] refl)
 in-two (suc m) first second e =
     next-sheet (first ++ second) (omega (arith, length-append first second))
     ∙ ap₂ _∷_ (take-append-le 28 first second (omega arith)) (ap sheetsOf (drop-append-le 28 first second (omega arith)) ∙ in-two m (drop 28 first) second (omega (arith, length-drop 28 first)))
@@ -70,7 +66,7 @@ in-two (suc m) first second e =
 -- the sheets are the input cut, as many as 28 bytes go into it, rounded up
 joined-first : (n : ℕ) (input : List ℕ) → length input ≤ 28 * n → flatten (firstSheets n input) ≡ input
 unfolding firstSheets flatten
-joined-first zero input h = sym (empty input (omega arith))
+joined-first zero input h = sym (drop-of-length-le input {i = 0} (omega arith))
 joined-first (suc n) input h =
     ap (λ (rest : List ℕ). take 28 input ++ rest) (joined-first n (drop 28 input) (omega (arith, length-drop 28 input))) ∙ take-append-drop 28 input
 

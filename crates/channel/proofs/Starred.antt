@@ -17,29 +17,21 @@ use Rattle.record.specs.Blocks.{tallyAfterBlock}
 use Rattle.record.specs.declared.Counts.{Counts}
 use Rattle.design.specs.Design.{designAt, designOf}
 use Rattle.design.specs.Numbers.{numbersOf}
-use Rattle.design.specs.Starred.{writing, starredNumbers}
+use Rattle.design.specs.Starred.{writing}
 use Rattle.design.specs.declared.Answer.{Answer}
 use Rattle.design.specs.declared.Answer.the-variants.{Answered, Refused}
-use Rattle.design.proofs.Promises.{starred, table-gives-level}
+use Rattle.design.proofs.Promises.{table-gives-level}
 use Rattle.lines.specs.Lines.{routeLine, sheetLine}
-use Rattle.lines.specs.Starred.{lineOfS}
-use Rattle.lines.proofs.Promises.{starred-levels, starred-sheet, starred-route}
+use Rattle.lines.specs.Starred.{numbersOfS, lineOfS}
+use Rattle.lines.proofs.Promises.{starred-levels, starred-numbers, starred-sheet, starred-route}
 use Rattle.channel.specs.Route.{noSheets, withSheet}
-use Rattle.channel.specs.Text.{sheetsOf, countsOf, tableOf, levelOf, routeAfter, sheetLines, levelsLineOf, routeLineOf, printed}
+use Rattle.channel.specs.Text.{sheetsOf, recordCounts, recordTable, recordLevel, routeAfter, sheetLines, levelsLineOf, routeLineOf, printed}
 use Rattle.channel.specs.Starred.{textOfS}
 use Rattle.channel.specs.declared.route.Route.{Route}
 use Rattle.channel.proofs.Cuts.{next-sheet, no-sheet}
 
--- S is answered, with ship class 0
-abbrev first : List (List ℤ) → List ℤ
-first [] = []
-first (numbers ∷ others) = numbers
-
-numbers-s : (table : List ℕ) → numbersOf (designOf (writing sheetS) table) ≡ first starredNumbers
-numbers-s table = ap first (starred table)
-
 -- the route with an answer that has code 0 and ship class 0
-routed : (answer : Answer) → numbersOf answer ≡ first starredNumbers → withSheet noSheets answer ≡ record { sheets = 1; answered = 1; class = 0 }
+routed : (answer : Answer) → numbersOf answer ≡ numbersOfS → withSheet noSheets answer ≡ record { sheets = 1; answered = 1; class = 0 }
 unfolding numbersOf withShip
 routed (Answered f) e =
     let ship : f .classes .ship ≡ 0 = ap (λ (numbers : List ℤ). natAbs (getD numbers 10 (pos 0))) e in
@@ -57,12 +49,12 @@ one-sheet =
 
 -- at the level of no record
 abbrev answer : Answer
-answer = designAt bytes-s (levelOf [])
+answer = designAt bytes-s (recordLevel [])
 
-over-no-record : designOf bytes-s (tableOf []) ≡ answer
-over-no-record = table-gives-level bytes-s (tableOf [])
+over-no-record : designOf bytes-s (recordTable []) ≡ answer
+over-no-record = table-gives-level bytes-s (recordTable [])
 
-no-counts : countsOf [] ≡ record { added = 0; missing = 0; refused = 0 }
+no-counts : recordCounts [] ≡ record { added = 0; missing = 0; refused = 0 }
 unfolding tallyAfterBlock readingsOf additions oddByte
 no-counts = refl
 
@@ -70,19 +62,19 @@ no-counts = refl
 abbrev text-by : Counts → Route → List ℕ
 text-by counts route = levelsLineOf counts ++ (sheetLine (route .sheets) (numbersOf answer) ++ (routeLineOf route ++ []))
 
-one-sheet-text : printed [] bytes-s ≡ text-by (countsOf []) (withSheet noSheets answer)
+one-sheet-text : printed [] bytes-s ≡ text-by (recordCounts []) (withSheet noSheets answer)
 unfolding printed sheetLines routeAfter flatten
 one-sheet-text =
     ap
-    (λ (sheets : List (List ℕ)). flatten (levelsLineOf (countsOf []) ∷ (sheetLines (levelOf []) noSheets sheets ++ routeLineOf (routeAfter (levelOf []) noSheets sheets) ∷ [])))
+    (λ (sheets : List (List ℕ)). flatten (levelsLineOf (recordCounts []) ∷ (sheetLines (recordLevel []) noSheets sheets ++ routeLineOf (routeAfter (recordLevel []) noSheets sheets) ∷ [])))
     one-sheet
 
 pub sample : printed [] bytes-s ≡ textOfS
 sample =
     let route : withSheet noSheets answer ≡ record { sheets = 1; answered = 1; class = 0 } =
-    routed answer (ap numbersOf (sym over-no-record) ∙ numbers-s (tableOf [])) in
+    routed answer (ap numbersOf (sym over-no-record) ∙ starred-numbers (recordTable [])) in
     let line : sheetLine 1 (numbersOf answer) ≡ lineOfS =
-    ap (λ (a : Answer). sheetLine 1 (numbersOf a)) (sym over-no-record) ∙ starred-sheet (tableOf []) in
+    ap (λ (a : Answer). sheetLine 1 (numbersOf a)) (sym over-no-record) ∙ starred-sheet (recordTable []) in
     one-sheet-text
     ∙ ap₂ text-by no-counts route
     ∙ ap₂ _++_ starred-levels (ap₂ _++_ line (append-nil (routeLine 1 1 0) ∙ starred-route))

@@ -12,7 +12,7 @@ use Rattle.lines.specs.Lines.{lineBytes, placeAfter, bufferAfter}
 use Rattle.channel.specs.Input.{ToItsEnd}
 use Rattle.channel.specs.Output.{Lines, standing, withLine, withLines, written}
 use Rattle.channel.specs.Route.{noSheets}
-use Rattle.channel.specs.Text.{sheetsOf, levelOf, countsOf, routeAfter, sheetLines, levelsLineOf, routeLineOf, linesOf, printed}
+use Rattle.channel.specs.Text.{sheetsOf, recordLevel, recordCounts, routeAfter, sheetLines, levelsLineOf, routeLineOf, linesOf, printed}
 use Rattle.channel.specs.Printing.{fileBlock, inputBlock, FileAdded, Progress, progress, atFirst, sheetsPrinted, InputPrinted, RoutePrinted, sheetsAndRoute, LinesPrinted, TextOf, TextPrinted}
 use Rattle.channel.specs.declared.Text.{Text}
 use Rattle.channel.specs.declared.Text.the-variants.{Whole, Cut}
@@ -26,13 +26,13 @@ module _ (buffer file input : List ℕ) where
 
   -- the record's line, the sheets' lines, the route's line
   abbrev in-turn : Lines
-  in-turn = sheetsAndRoute (levelOf file) input (withLine (levelsLineOf (countsOf file)) first)
+  in-turn = sheetsAndRoute (recordLevel file) input (withLine (levelsLineOf (recordCounts file)) first)
 
   all-in-turn : withLines (linesOf file input) first ≡ in-turn
   unfolding withLines
   all-in-turn =
-      lines-in-two (sheetLines (levelOf file) noSheets (sheetsOf input)) (routeLineOf (routeAfter (levelOf file) noSheets (sheetsOf input)) ∷ [])
-      (withLine (levelsLineOf (countsOf file)) first)
+      lines-in-two (sheetLines (recordLevel file) noSheets (sheetsOf input)) (routeLineOf (routeAfter (recordLevel file) noSheets (sheetsOf input)) ∷ [])
+      (withLine (levelsLineOf (recordCounts file)) first)
 
   in-order : lineBytes ≤ length buffer → (l : Lines) → l ≡ in-turn → written (linesOf file input) first ++ standing l ≡ printed file input
   unfolding printed

@@ -26,14 +26,14 @@ unfoldable pub sheetsOf : List ℕ → List (List ℕ)
 sheetsOf input = firstSheets (up (length input) 28) input
 
 -- the record: the table that starts from zeros, its level, and the counts of its readings
-abbrev pub tableOf : List ℕ → List ℕ
-tableOf file = tableAfterBlock emptyTable noTally file
+abbrev pub recordTable : List ℕ → List ℕ
+recordTable file = tableAfterBlock emptyTable noTally file
 
-abbrev pub levelOf : List ℕ → LevelRead
-levelOf file = designLevel (tableOf file)
+abbrev pub recordLevel : List ℕ → LevelRead
+recordLevel file = designLevel (recordTable file)
 
-abbrev pub countsOf : List ℕ → Counts
-countsOf file = tallyAtEnd (tallyAfterBlock emptyTable noTally file) .counts
+abbrev pub recordCounts : List ℕ → Counts
+recordCounts file = tallyAtEnd (tallyAfterBlock emptyTable noTally file) .counts
 
 module _ (level : LevelRead) where
   -- the route after sheets, each designed at that level
@@ -70,8 +70,8 @@ routeLineOf route = routeLine (route .sheets) (route .answered) (route .class)
 -- the lines, and the text
 abbrev pub linesOf : List ℕ → List ℕ → List (List ℕ)
 linesOf file input =
-    levelsLineOf (countsOf file)
-    ∷ (sheetLines (levelOf file) noSheets (sheetsOf input) ++ routeLineOf (routeAfter (levelOf file) noSheets (sheetsOf input)) ∷ [])
+    levelsLineOf (recordCounts file)
+    ∷ (sheetLines (recordLevel file) noSheets (sheetsOf input) ++ routeLineOf (routeAfter (recordLevel file) noSheets (sheetsOf input)) ∷ [])
 
 unfoldable pub printed : List ℕ → List ℕ → List ℕ
 printed file input = flatten (linesOf file input)

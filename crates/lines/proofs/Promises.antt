@@ -19,14 +19,14 @@ use Rattle.design.specs.Design.{designOf}
 use Rattle.design.specs.Numbers.{numberCount, numbersOf}
 use Rattle.design.specs.Starred.{writing}
 use Rattle.design.proofs.Promises.{all-numbers, numbers-fit}
-use Rattle.lines.specs.Starred.{lineOfS}
+use Rattle.lines.specs.Starred.{numbersOfS, lineOfS}
 use Rattle.lines.specs.Lines.{levelsLine, sheetLine, routeLine, lineBytes, placeAfter, bufferAfter}
 use Rattle.lines.proofs.decimals.Meaning.{digits-value, digits-decimal, decimal-only}
 use Rattle.lines.proofs.decimals.Texts.{count-text-one, number-text-one, minus-negative}
 use Rattle.lines.proofs.wholes.OneLine.{sheet-line-one, levels-line-one, route-line-one}
 use Rattle.lines.proofs.wholes.Sizes.{sheet-line-size, levels-line-size, route-line-size}
 use Rattle.lines.proofs.putting.Fitting.{same-place-exactly, buffer-unfit, before-kept, line-stands, line-behind, none-lost, after-kept, length-kept, place-within}
-use Rattle.lines.proofs.wholes.Sample.{first-line, line-s, last-line}
+use Rattle.lines.proofs.wholes.Sample.{first-line, numbers-s, line-s, last-line}
 
 -- The digits of a number mean it.
 pub digits-mean : (n : ℕ) → valueOf (digits n) ≡ n
@@ -147,9 +147,12 @@ pub route-buffer-unique : (sheets answered class at : ℕ) (buffer now later : L
     → now ≡ later
 route-buffer-unique sheets answered class at buffer = one-answer
 
--- The lines of the definition's sample: L 0 0 0, the line of S's design over any table, R 1 1 0.
+-- The lines of the definition's sample: L 0 0 0, the numbers and the line of S's design over any table, R 1 1 0.
 pub starred-levels : levelsLine 0 0 0 ≡ 76 ∷ 32 ∷ 48 ∷ 32 ∷ 48 ∷ 32 ∷ 48 ∷ 10 ∷ []
 starred-levels = first-line
+
+pub starred-numbers : (table : List ℕ) → numbersOf (designOf (writing sheetS) table) ≡ numbersOfS
+starred-numbers = numbers-s
 
 pub starred-sheet : (table : List ℕ) → sheetLine 1 (numbersOf (designOf (writing sheetS) table)) ≡ lineOfS
 starred-sheet = line-s
