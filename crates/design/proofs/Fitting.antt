@@ -1,14 +1,18 @@
 -- Each number of a design fits 32 bits: each figure by what it is and what its room says of it, a number that turns a sheet away by its row, and
 -- its field as it is one of the 28.
+use mathlib.Core.Path.{_≡_, refl}
+use mathlib.Core.Bool.{Bool, true, false}
 use mathlib.Core.List.{List}
 use mathlib.Core.Logic.{inl, inr}
-use Prim.Native.Nat.{ℕ, zero, suc, _-_, _^_, _≤_, _<_, zero-le}
+use Prim.Native.Nat.{ℕ, zero, suc, _-_, _^_, _≤_, _<_}
 use native.Mathlib.Omega.{arith}
 use lib.Dec.{lit<}
 use lib.IntN.{pos}
 use lib.ListN.{replicate}
+use borrow.Author.Tests.{eqb-true, eqb-false}
 use mir.Syntax.{w32}
 use mir.Val.{SFits}
+use Rattle.laws.specs.Choice.{_=ᵇ_}
 use Rattle.laws.specs.Each.{Each, _&_}
 use Rattle.datum.specs.declared.Level.{Level}
 use Rattle.datum.proofs.Promises.{level-fits, datum-fits}
@@ -18,7 +22,6 @@ use Rattle.sheet.specs.Sheets.{levelFigure, figuresOf, Valid}
 use Rattle.sheet.specs.declared.Sheet.{Sheet}
 use Rattle.sheet.specs.declared.LevelSource.{LevelSource}
 use Rattle.sheet.specs.declared.LevelSource.the-variants.{FromRecord, Given}
-use Rattle.sheet.specs.declared.ReadFault.the-variants.{WrongLength, SpareBitSet, BadField}
 use Rattle.sheet.proofs.Promises.{bad-within, valid-in-range}
 use Rattle.sheet.proofs.sheets.OneWriting.{read-valid}
 use Rattle.gauge.specs.Designing.{rangeOf, frequencyTaken}
@@ -28,15 +31,14 @@ use Rattle.depth.proofs.Promises.{columns-one-to-three}
 use Rattle.width.proofs.Promises.{width-fits, widening-fits}
 use Rattle.class.proofs.Promises.{ship-class-within, width-class-within, depth-class-within}
 use Rattle.design.specs.Design.{widthStretch, lanesFor, designOf}
-use Rattle.design.specs.Numbers.{reasonField, numberCount, numbersOf}
-use Rattle.design.specs.Refusals.{sheetIn, levelFrom, levelIn, rows}
+use Rattle.design.specs.Numbers.{numberCount, numbersOf}
+use Rattle.design.specs.Refusals.{reasonNumber, reasonField, sheetIn, levelFrom, levelIn, rows}
 use Rattle.design.specs.Answers.{stretchOf, widthIn, FiguresAre, NamesFirst}
 use Rattle.design.specs.declared.Figures.{Figures}
 use Rattle.design.specs.declared.Reason.{Reason}
-use Rattle.design.specs.declared.Reason.the-variants.{NoSheet, NoLevel, NoWidth, NoDepth}
 use Rattle.design.specs.declared.Answer.{Answer}
 use Rattle.design.specs.declared.Answer.the-variants.{Answered, Refused}
-use Rattle.design.proofs.answers.Numbers.{reason-to}
+use Rattle.design.proofs.answers.Numbers.{reason-to, field-zero}
 use Rattle.design.proofs.rows.Readings.{sheet-read}
 use Rattle.design.proofs.rows.Exactly.{Ended, design-ended}
 
@@ -72,12 +74,11 @@ unfolding numbersOf
 refused-fits r field = under (omega (arith, reason-to r)) & under (omega arith) & zeros-fit (numberCount - 2)
 
 field-within : (bytes : List ℕ) (r : Reason) → NamesFirst bytes r → reasonField r ≤ count
-field-within bytes (NoSheet WrongLength) names = zero-le
-field-within bytes (NoSheet SpareBitSet) names = zero-le
-field-within bytes (NoSheet (BadField k)) names = bad-within (groupsOf bytes) k (names .holds)
-field-within bytes (NoLevel fault) names = zero-le
-field-within bytes (NoWidth fault) names = zero-le
-field-within bytes (NoDepth fault) names = zero-le
+field-within bytes r names = go (reasonNumber r =ᵇ 3) refl
+  where
+    go : (b : Bool) → (reasonNumber r =ᵇ 3) ≡ b → reasonField r ≤ count
+    go true three = bad-within (groupsOf bytes) (reasonField r) (names (eqb-true (reasonNumber r) 3 three) .holds)
+    go false other = omega (arith, field-zero r (eqb-false (reasonNumber r) 3 other))
 
 -- a level off the record is held as one of the table's, and one that is given in field 28
 level-held : (source : LevelSource) (table : List ℕ) → levelFigure source < 2 ^ 16 → levelFrom source table .0 < 2 ^ 16

@@ -37,8 +37,8 @@ use Rattle.gauge.proofs.Promises.{refused-changes-nothing}
 use Rattle.depth.specs.Depth.{Meets}
 use Rattle.depth.specs.declared.DepthFault.{DepthFault}
 use Rattle.design.specs.Design.{levelFor, designAt, designOf}
-use Rattle.design.specs.Numbers.{reasonNumber, reasonField, codeOf, fieldOf, numberCount, numbersOf}
-use Rattle.design.specs.Refusals.{sheetIn, levelIn, offRecord, rows}
+use Rattle.design.specs.Numbers.{codeOf, fieldOf, numberCount, numbersOf}
+use Rattle.design.specs.Refusals.{reasonNumber, reasonField, sheetIn, levelIn, offRecord, rows}
 use Rattle.design.specs.Answers.{stretchOf, FiguresAre}
 use Rattle.design.specs.Harder.{hardenings, NeverEasier}
 use Rattle.design.specs.Starred.{writing, starredSheets, starredNumbers}

@@ -10,7 +10,6 @@ use Rattle.datum.specs.declared.Level.{Level}
 use Rattle.sheet.specs.Fields.{Bad}
 use Rattle.sheet.specs.Packing.{groupsOf}
 use Rattle.sheet.specs.declared.Sheet.{Sheet}
-use Rattle.sheet.specs.declared.ReadFault.the-variants.{WrongLength, SpareBitSet, BadField}
 use Rattle.depth.specs.Depth.{sailing, ownColumn, Meets}
 use Rattle.depth.specs.Worksheet.{tries}
 use Rattle.depth.specs.declared.Stretch.{Stretch as DepthStretch}
@@ -19,9 +18,9 @@ use Rattle.width.specs.Bends.{bendOf, wideningFigure}
 use Rattle.width.specs.Width.{widthFigure}
 use Rattle.class.specs.Classes.{shipClass, widthClass, depthClass}
 use Rattle.design.specs.Design.{depthStretch, widthStretch, lanesFor}
+use Rattle.design.specs.Refusals.{reasonNumber, reasonField}
 use Rattle.design.specs.declared.Figures.{Figures}
 use Rattle.design.specs.declared.Reason.{Reason}
-use Rattle.design.specs.declared.Reason.the-variants.{NoSheet, NoLevel, NoWidth, NoDepth}
 
 -- the stretch whose depth a sheet asks for at a level, in the lanes of the lane rule
 abbrev pub stretchOf : Sheet → Level → DepthStretch
@@ -52,11 +51,6 @@ pub record FiguresAre (s : Sheet) (design-level : Level) (f : Figures) : Type 0 
   pub width-class : f .classes .width ≡ widthClass (lanesFor s) (widthIn s f)
   pub depth-class : f .classes .depth ≡ depthClass (f .sailing)
 
--- a bad field that is named is the first; no other reason names one
+-- where the number is 3, the field that is named is the first bad one
 abbrev pub NamesFirst : List ℕ → Reason → Type 0
-NamesFirst bytes (NoSheet WrongLength) = Unit {0}
-NamesFirst bytes (NoSheet SpareBitSet) = Unit {0}
-NamesFirst bytes (NoSheet (BadField k)) = Least (Bad (groupsOf bytes)) k
-NamesFirst bytes (NoLevel fault) = Unit {0}
-NamesFirst bytes (NoWidth fault) = Unit {0}
-NamesFirst bytes (NoDepth fault) = Unit {0}
+NamesFirst bytes r = reasonNumber r ≡ 3 → Least (Bad (groupsOf bytes)) (reasonField r)

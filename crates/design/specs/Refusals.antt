@@ -1,4 +1,4 @@
--- The rows of section 8 that a design checks, in their order, each as it is meant.
+-- The numbers that turn a sheet away in a design: that of each reason, and the rows of section 8 in their order, each as it is meant.
 use mathlib.Core.Path.{_≡_}
 use mathlib.Core.List.{List, [], _∷_}
 use mathlib.Core.Logic.{_≢_}
@@ -8,17 +8,34 @@ use Rattle.laws.specs.Rows.{Row, _when_}
 use Rattle.datum.specs.declared.Level.{Level}
 use Rattle.sheet.specs.Packing.{size, groupsOf, SpareSet}
 use Rattle.sheet.specs.Sheets.{sheetOf}
-use Rattle.sheet.specs.Refusals.{SomeBad}
+use Rattle.sheet.specs.Refusals.{SomeBad, readFaultNumber, readFaultField}
 use Rattle.sheet.specs.declared.Sheet.{Sheet}
 use Rattle.sheet.specs.declared.LevelSource.{LevelSource}
 use Rattle.sheet.specs.declared.LevelSource.the-variants.{FromRecord, Given}
 use Rattle.gauge.specs.Frequency.{heldLevel}
-use Rattle.gauge.specs.Designing.{rangeOf, frequencyTaken, TableUnfit, RecordShort, RangeWide}
+use Rattle.gauge.specs.Designing.{rangeOf, frequencyTaken, TableUnfit, RecordShort, RangeWide, levelFaultNumber}
+use Rattle.depth.specs.Depth.{depthFaultNumber}
 use Rattle.depth.specs.Reasons.{FirstUnusable}
 use Rattle.depth.specs.declared.DepthFault.{DepthFault}
 use Rattle.depth.specs.declared.DepthFault.the-variants.{NoSquatEntry, SiltOver, CutOver}
-use Rattle.width.specs.Refusals.{TightBend, NoWidthEntry}
+use Rattle.width.specs.Refusals.{TightBend, NoWidthEntry, widthFaultNumber}
 use Rattle.design.specs.Design.{depthStretch, lanesFor}
+use Rattle.design.specs.declared.Reason.{Reason}
+use Rattle.design.specs.declared.Reason.the-variants.{NoSheet, NoLevel, NoWidth, NoDepth}
+
+-- the number of each reason: that of the room that turned the sheet away
+abbrev pub reasonNumber : Reason → ℕ
+reasonNumber (NoSheet fault) = readFaultNumber fault
+reasonNumber (NoLevel fault) = levelFaultNumber fault
+reasonNumber (NoWidth fault) = widthFaultNumber fault
+reasonNumber (NoDepth fault) = depthFaultNumber fault
+
+-- the field, 0 unless the number is 3
+abbrev pub reasonField : Reason → ℕ
+reasonField (NoSheet fault) = readFaultField fault
+reasonField (NoLevel fault) = 0
+reasonField (NoWidth fault) = 0
+reasonField (NoDepth fault) = 0
 
 -- the sheet that bytes hold
 abbrev pub sheetIn : List ℕ → Sheet

@@ -2,6 +2,7 @@
 ghost use mathlib.Core.Path.{_≡_};
 ghost use Rattle.design.specs.Design.{designAt, designOf};
 ghost use Rattle.design.specs.Numbers.{codeOf, numbersOf};
+ghost use Rattle.design.specs.Refusals.{reasonNumber, reasonField};
 use class::Classes;
 use datum::BelowChart;
 use datum::BelowLevel;
@@ -47,6 +48,30 @@ pub enum Answer {
     Refused(Reason),
 }
 
+// The number of a reason: each room gives those of its own refusals.
+fn reason_number(reason: Reason) -> u8
+    ensures { λ r. ⌜ r ≡ reasonNumber reason ⌝ }
+{
+    match reason {
+        Reason::NoSheet(fault) => sheet::read_fault_number(fault),
+        Reason::NoLevel(fault) => gauge::level_fault_number(fault),
+        Reason::NoWidth(fault) => width::width_fault_number(fault),
+        Reason::NoDepth(fault) => depth::depth_fault_number(fault),
+    }
+}
+
+// Its field, 0 unless the number is 3.
+fn reason_field(reason: Reason) -> u8
+    ensures { λ r. ⌜ r ≡ reasonField reason ⌝ }
+{
+    match reason {
+        Reason::NoSheet(fault) => sheet::read_fault_field(fault),
+        Reason::NoLevel(_) => 0,
+        Reason::NoWidth(_) => 0,
+        Reason::NoDepth(_) => 0,
+    }
+}
+
 // How many numbers an answer has: code, field and figures.
 pub const COUNT: usize = 13;
 
@@ -74,7 +99,7 @@ pub fn code(design: Answer) -> u8
 {
     match design {
         Answer::Answered(_) => 0,
-        Answer::Refused(reason) => numbering::reason_number(reason),
+        Answer::Refused(reason) => reason_number(reason),
     }
 }
 
@@ -84,6 +109,6 @@ pub fn numbers(design: Answer) -> [i32; COUNT]
 {
     match design {
         Answer::Answered(figures) => numbering::answered(figures),
-        Answer::Refused(reason) => numbering::refused(reason),
+        Answer::Refused(reason) => numbering::refused(reason_number(reason), reason_field(reason)),
     }
 }

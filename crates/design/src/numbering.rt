@@ -2,35 +2,11 @@
 ghost use mathlib.Core.Path.{_≡_};
 ghost use lib.IntN.{pos};
 ghost use Rattle.datum.specs.Datum.{levelOf};
-ghost use Rattle.design.specs.Numbers.{reasonNumber, reasonField, answeredNumbers, refusedNumbers};
+ghost use Rattle.design.specs.Numbers.{answeredNumbers, refusedNumbers};
 use crate::COUNT;
 use crate::Figures;
-use crate::Reason;
 use datum::BelowLevel;
 use datum::Level;
-
-// Each room gives the numbers of its own refusals.
-pub fn reason_number(reason: Reason) -> u8
-    ensures { λ r. ⌜ r ≡ reasonNumber reason ⌝ }
-{
-    match reason {
-        Reason::NoSheet(fault) => sheet::read_fault_number(fault),
-        Reason::NoLevel(fault) => gauge::level_fault_number(fault),
-        Reason::NoWidth(fault) => width::width_fault_number(fault),
-        Reason::NoDepth(fault) => depth::depth_fault_number(fault),
-    }
-}
-
-fn reason_field(reason: Reason) -> u8
-    ensures { λ r. ⌜ r ≡ reasonField reason ⌝ }
-{
-    match reason {
-        Reason::NoSheet(fault) => sheet::read_fault_field(fault),
-        Reason::NoLevel(_) => 0,
-        Reason::NoWidth(_) => 0,
-        Reason::NoDepth(_) => 0,
-    }
-}
 
 // A level in cm above chart datum.
 fn level_number(level: Level) -> i32
@@ -52,12 +28,12 @@ fn small_number(figure: u8) -> i32
 }
 
 // The number, the field, and zeros.
-pub fn refused(reason: Reason) -> [i32; COUNT]
-    ensures { λ r. ⌜ r ≡ refusedNumbers reason ⌝ }
+pub fn refused(number: u8, field: u8) -> [i32; COUNT]
+    ensures { λ r. ⌜ r ≡ refusedNumbers number field ⌝ }
 {
     let mut numbers = [0i32; COUNT];
-    numbers[0] = small_number(reason_number(reason));
-    numbers[1] = small_number(reason_field(reason));
+    numbers[0] = small_number(number);
+    numbers[1] = small_number(field);
     numbers
 }
 

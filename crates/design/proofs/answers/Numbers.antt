@@ -16,8 +16,8 @@ use Rattle.sheet.specs.declared.ReadFault.the-variants.{WrongLength, SpareBitSe
 use Rattle.gauge.specs.declared.LevelFault.the-variants.{WrongTable, TooFewReadings, RangeTooWide}
 use Rattle.width.specs.declared.WidthFault.the-variants.{BendTooTight, NoWidthEntry}
 use Rattle.depth.specs.declared.DepthFault.the-variants.{NoSquatEntry, SiltOver, CutOver}
-use Rattle.design.specs.Numbers.{reasonNumber, reasonField, codeOf, fieldOf, numberCount, numbersOf}
-use Rattle.design.specs.Refusals.{rows}
+use Rattle.design.specs.Numbers.{codeOf, fieldOf, numberCount, numbersOf}
+use Rattle.design.specs.Refusals.{reasonNumber, reasonField, rows}
 use Rattle.design.specs.declared.Figures.{Figures}
 use Rattle.design.specs.declared.Reason.{Reason}
 use Rattle.design.specs.declared.Reason.the-variants.{NoSheet, NoLevel, NoWidth, NoDepth}
@@ -82,7 +82,7 @@ zero-exactly (Answered f) = ((λ e. (f, refl)), (λ e. refl))
 zero-exactly (Refused r) = ((λ e. absurd (refused-some r e)), (λ answered. ap codeOf (answered .1)))
 
 -- the field is 0 unless the number is 3
-field-zero : (r : Reason) → reasonNumber r ≢ 3 → reasonField r ≡ 0
+pub field-zero : (r : Reason) → reasonNumber r ≢ 3 → reasonField r ≡ 0
 field-zero (NoSheet WrongLength) n = refl
 field-zero (NoSheet SpareBitSet) n = refl
 field-zero (NoSheet (BadField k)) n = absurd (n refl)

@@ -1,7 +1,9 @@
 -- The rows lead to the answer of a design: from the last room to the first, each tells of its own rows and hands on what it found.
 use mathlib.Core.Path.{_≡_, refl, sym, ap, subst⁻¹}
 use mathlib.Core.List.{List, []}
+use mathlib.Core.Logic.{_≢_}
 use Prim.Native.Nat.{ℕ}
+use native.Mathlib.Omega.{arith}
 use lib.IntN.{pos}
 use Rattle.laws.proofs.Rows.{Told, Call, from, onward}
 use Rattle.datum.specs.declared.Level.{Level}
@@ -16,14 +18,16 @@ use Rattle.sheet.proofs.sheets.Reading.{Unread, reads, read-told}
 use Rattle.gauge.specs.Designing.{designLevel, levelNumber, levelRows}
 use Rattle.gauge.specs.declared.LevelRead.{LevelRead}
 use Rattle.gauge.specs.declared.LevelRead.the-variants.{Found, NoLevel}
+use Rattle.gauge.specs.declared.LevelFault.the-variants.{WrongTable, TooFewReadings, RangeTooWide}
 use Rattle.gauge.proofs.Refusals.{NotFound}
 use Rattle.lanes.specs.declared.Lanes.{Lanes}
-use Rattle.depth.specs.Depth.{depthNumber}
+use Rattle.depth.specs.Depth.{depthNumber, depthFaultNumber}
 use Rattle.depth.specs.Reasons.{depthRows}
 use Rattle.depth.specs.Worksheet.{workDepth}
 use Rattle.depth.specs.declared.Stretch.{Stretch as DepthStretch}
 use Rattle.depth.specs.declared.Depth.{Depth}
 use Rattle.depth.specs.declared.DepthFault.{DepthFault}
+use Rattle.depth.specs.declared.DepthFault.the-variants.{NoSquatEntry, SiltOver, CutOver}
 use Rattle.depth.specs.declared.Depth.the-variants.{NoCut}
 use Rattle.depth.proofs.Refusals.{Worked, depths, depth-told}
 use Rattle.width.specs.Bands.{entriesOf}
@@ -105,8 +109,13 @@ module _ (bytes table : List ℕ) where
     abbrev atDepth : Depth → Answer
     atDepth = byDepth sheet level lanes (wideningIn sheet) entries
 
+    depth-other : (fault : DepthFault) → depthFaultNumber fault ≢ 3
+    depth-other NoSquatEntry three = omega arith
+    depth-other SiltOver three = omega arith
+    depth-other CutOver three = omega arith
+
     depth-handed : (d : Depth) → (fault : DepthFault) × (d ≡ NoCut fault) → Handed (depthNumber d) (atDepth d)
-    depth-handed d none = rw (none .1) (refl, tt)
+    depth-handed d none = rw (none .1) (refl, λ three. absurd (depth-other (none .0) three))
 
     past-entries-told : From 13 (pastEntries sheet level lanes (wideningIn sheet) entries)
     unfolding pastEntries rows
@@ -119,7 +128,7 @@ module _ (bytes table : List ℕ) where
   atEntries = byEntries sheet level lanes (wideningIn sheet)
 
   entries-handed : (found : EntriesFound) → found ≡ NoEntry → Handed (entriesNumber found) (atEntries found)
-  entries-handed found e = rw e (refl, tt)
+  entries-handed found e = rw e (refl, λ three. absurd (omega arith))
 
   past-bend-told : From 8 (pastBend sheet level lanes (wideningIn sheet))
   unfolding pastBend rows
@@ -133,7 +142,7 @@ module _ (bytes table : List ℕ) where
   bend = bendOf (sheet .turn) (sheet .radius) (sheet .length) (sheet .speed) lanes
 
   bend-handed : (b : Bend) → b ≡ TooTight → Handed (bendNumber b) (byBend sheet level lanes b)
-  bend-handed b e = rw e (refl, tt)
+  bend-handed b e = rw e (refl, λ three. absurd (omega arith))
 
   at-level-told : From 7 (atLevel sheet level)
   unfolding atLevel rows
@@ -145,7 +154,9 @@ module _ (bytes table : List ℕ) where
   -- 4, 5, 6
   level-handed : (read : LevelRead) → NotFound read → Handed (levelNumber read) (byLevel sheet read)
   level-handed (Found found) none = absurd none
-  level-handed (NoLevel fault) none = (refl, tt)
+  level-handed (NoLevel WrongTable) none = (refl, λ three. absurd (omega arith))
+  level-handed (NoLevel TooFewReadings) none = (refl, λ three. absurd (omega arith))
+  level-handed (NoLevel RangeTooWide) none = (refl, λ three. absurd (omega arith))
 
   of-sheet-told : From 4 (ofSheet sheet (designLevel table))
   unfolding ofSheet rows
@@ -160,9 +171,9 @@ module _ (bytes table : List ℕ) where
 
   reading-handed : (read : SheetRead) → Unread bytes read → Handed (readNumber read) (reading read)
   reading-handed (Good s) none = absurd none
-  reading-handed (NoSheet WrongLength) none = (refl, tt)
-  reading-handed (NoSheet SpareBitSet) none = (refl, tt)
-  reading-handed (NoSheet (BadField k)) first = (refl, first)
+  reading-handed (NoSheet WrongLength) none = (refl, λ three. absurd (omega arith))
+  reading-handed (NoSheet SpareBitSet) none = (refl, λ three. absurd (omega arith))
+  reading-handed (NoSheet (BadField k)) first = (refl, λ three. first)
 
   pub told : Bytes bytes → Told (designs bytes table) (rows bytes table) (designOf bytes table)
   unfolding designOf designAt rows

@@ -1,6 +1,6 @@
 -- A number is given exactly when its row holds and none checked before it does, by the law of ordered rows; an answer exactly when no row holds,
 -- with the only figures that are so.
-use mathlib.Core.Path.{_≡_, refl, ap, subst, _∙_}
+use mathlib.Core.Path.{_≡_, refl, ap, _∙_}
 use mathlib.Core.List.{List}
 use mathlib.Core.Logic.{_↔_, _⊎_}
 use Prim.Native.Nat.{ℕ}
@@ -17,9 +17,9 @@ use Rattle.depth.specs.declared.DepthFault.{DepthFault}
 use Rattle.depth.specs.declared.DepthFault.the-variants.{NoSquatEntry, SiltOver, CutOver}
 use Rattle.depth.proofs.Promises.{unusable-none}
 use Rattle.design.specs.Design.{designOf}
-use Rattle.design.specs.Numbers.{reasonField, codeOf}
-use Rattle.design.specs.Refusals.{sheetIn, levelIn, rows}
-use Rattle.design.specs.Answers.{stretchOf, FiguresAre, NamesFirst}
+use Rattle.design.specs.Numbers.{codeOf}
+use Rattle.design.specs.Refusals.{reasonField, sheetIn, levelIn, rows}
+use Rattle.design.specs.Answers.{stretchOf, FiguresAre}
 use Rattle.design.specs.declared.Figures.{Figures}
 use Rattle.design.specs.declared.Reason.the-variants.{NoSheet, NoDepth}
 use Rattle.design.specs.declared.Answer.{Answer}
@@ -37,7 +37,7 @@ module _ (bytes table : List ℕ) where
   only-field k (Answered f) three names least = absurd names
   only-field k (Refused r) three names least =
       let is : r ≡ NoSheet (BadField (reasonField r)) = one-reason r (NoSheet (BadField (reasonField r))) three refl in
-      ap Refused (is ∙ ap (λ (n : ℕ). NoSheet (BadField n)) (least-only (Bad (groupsOf bytes)) (reasonField r) k (subst (NamesFirst bytes) is names) least))
+      ap Refused (is ∙ ap (λ (n : ℕ). NoSheet (BadField n)) (least-only (Bad (groupsOf bytes)) (reasonField r) k (names three) least))
 
   -- how a design ended: answered past every row, or refused by one
   abbrev pub Ended : Answer → Type 0
@@ -62,8 +62,10 @@ module _ (bytes table : List ℕ) where
     pub field-exactly : (k : ℕ) → (designOf bytes table ≡ Refused (NoSheet (BadField k))) ↔ (Least (Bad (groupsOf bytes)) k × NoneBefore (rows bytes table) 3)
     unfolding rows
     field-exactly k =
+        let first =
         refusal-exactly (designs bytes table) (rows bytes table) tt (designOf bytes table) (told bytes table small) (Refused (NoSheet (BadField k))) (omega arith)
-        (λ least. record { field = k; bad = least .holds }) (only-field k (designOf bytes table))
+        (λ names. record { field = k; bad = names refl .holds }) (λ same named names. only-field k (designOf bytes table) same named (names refl)) in
+        ((λ e. let is = first .0 e in (is .0 refl, is .1)), (λ is. first .1 ((λ three. is .0), is .1)))
 
     -- no depth is said only when no cut meets the definition
     pub no-depth-only : (fault : DepthFault) → designOf bytes table ≡ Refused (NoDepth fault) → (d : ℕ) → ¬ Meets (stretchOf (sheetIn bytes) (levelIn (sheetIn bytes) table)) d
