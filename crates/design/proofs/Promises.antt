@@ -11,7 +11,7 @@ use lib.IntN.{ℤ, pos}
 use lib.ListN.{length, take, replicate}
 use mir.Syntax.{w32}
 use mir.Val.{SFits}
-use Rattle.laws.specs.Each.{Each, _&_}
+use Rattle.laws.specs.Each.{Each}
 use Rattle.laws.specs.Extremes.{Least}
 use Rattle.laws.specs.Rows.{NoneBefore, None, Listed, Exactly}
 use Rattle.laws.proofs.Rows.{absent}
@@ -40,7 +40,7 @@ use Rattle.design.specs.Design.{levelFor, designAt, designOf}
 use Rattle.design.specs.Numbers.{codeOf, fieldOf, numberCount, numbersOf}
 use Rattle.design.specs.Refusals.{reasonNumber, reasonField, sheetIn, levelIn, offRecord, rows}
 use Rattle.design.specs.Answers.{stretchOf, FiguresAre}
-use Rattle.design.specs.Harder.{hardenings, NeverEasier}
+use Rattle.design.specs.Harder.{cut, Hardening, hardenings, BothPass, EasierPasses, AnyTwo, NeverEasier, _never-lessens_}
 use Rattle.design.specs.Starred.{writing, starredSheets, starredNumbers}
 use Rattle.design.specs.declared.Figures.{Figures}
 use Rattle.design.specs.declared.Reason.{Reason}
@@ -52,7 +52,8 @@ use Rattle.design.proofs.rows.Readings.{sheet-read, level-read, other-l
 use Rattle.design.proofs.answers.Figures.{figures-only}
 use Rattle.design.proofs.Fitting.{design-fits}
 use Rattle.design.proofs.rows.Exactly.{design-exactly, field-exactly, figures-exactly, no-depth-only as no-depth-said}
-use Rattle.design.proofs.harder.Never.{deepens, broadens}
+use Rattle.design.proofs.harder.Never as the-harder
+use Rattle.design.proofs.harder.Cured as the-cure
 use Rattle.design.proofs.Starred as the-starred
 
 -- Demand 1
@@ -116,11 +117,21 @@ module _ (bytes table : List ℕ) (small : Bytes bytes) where
 
 -- Over one table, of two sheets with every field in range that differ in one of these figures and come to the same lanes, the one with the
 -- greater figure is answered only where the other is, with a cut that is no shallower (draft, length, speed, wave allowance, silting rate, soil)
--- or a width that is no narrower (beam, wind, cross current, along current, wave height).
-pub never-easier : Each NeverEasier hardenings
-never-easier =
-    deepens 2 refl & deepens 3 refl & deepens 5 refl & deepens 8 refl & deepens 9 refl & deepens 7 refl
-    & broadens 4 refl refl & broadens 16 refl refl & broadens 17 refl refl & broadens 18 refl refl & broadens 19 refl refl & tt
+-- or a width that is no narrower (beam, wind, cross current, along current, wave height). Of two that both pass 18;
+pub never-easier : Each (NeverEasier BothPass) hardenings
+never-easier = the-harder.of-two-that-pass
+
+-- it is enough that the easier one passes it;
+pub never-easier-past : Each (NeverEasier EasierPasses) hardenings
+never-easier-past = the-harder.easier-passes
+
+-- and of any two, where the greater figure is not the length.
+pub never-easier-unless-longer : Each (λ (h : Hardening). h .field ≢ 3 → NeverEasier AnyTwo h) hardenings
+never-easier-unless-longer = the-harder.any-but-longer
+
+-- Without a test of 18 the sentence of the length would be false: S with a beam of 40 m is refused at a length of 119.99 m, and answered at 120 m.
+pub longer-cures-18 : ¬ NeverEasier AnyTwo (3 never-lessens cut)
+longer-cures-18 = the-cure.longer-cures
 
 -- The numbers that turn a sheet away
 module _ (bytes table : List ℕ) (small : Bytes bytes) where

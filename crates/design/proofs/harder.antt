@@ -3,3 +3,4 @@ pub mod Compared
 pub mod Rows
 pub mod Widths
 pub mod Never
+pub mod Cured

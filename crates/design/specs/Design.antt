@@ -1,9 +1,10 @@
 -- A design: the checks of section 8 in their order, and the figures of a sheet that passes them, room by room.
 -- What it means stands beside it, with no word of a check: `Refusals.antt` has the row of each number, `Answers.antt` what the figures are,
 -- `Harder.antt` demand 3.
-use Prim.Native.Nat.{ℕ}
+use Prim.Native.Nat.{ℕ, _*_}
 use mathlib.Core.List.{List}
 use lib.IntN.{pos}
+use Rattle.laws.specs.Choice.{if_then_else_, _<ᵇ_}
 use Rattle.datum.specs.Datum.{naturalDepth, datumDepth}
 use Rattle.datum.specs.declared.Level.{Level}
 use Rattle.datum.specs.declared.BelowLevel.{BelowLevel}
@@ -36,7 +37,7 @@ use Rattle.width.specs.declared.EntriesFound.the-variants.{Entered, NoEntry}
 use Rattle.width.specs.declared.WidthFault.the-variants.{BendTooTight, NoWidthEntry}
 use Rattle.class.specs.Classes.{classesOf}
 use Rattle.design.specs.declared.Figures.{Figures}
-use Rattle.design.specs.declared.Reason.the-variants.{NoSheet, NoLevel, NoWidth, NoDepth}
+use Rattle.design.specs.declared.Reason.the-variants.{NoSheet, NoShip, NoLevel, NoWidth, NoDepth}
 use Rattle.design.specs.declared.Answer.{Answer}
 use Rattle.design.specs.declared.Answer.the-variants.{Answered, Refused}
 
@@ -127,8 +128,9 @@ abbrev pub levelFor : LevelSource → LevelRead → LevelRead
 levelFor FromRecord read = read
 levelFor (Given level) read = Found level
 
+-- 18: the length is under three beams
 unfoldable pub ofSheet : Sheet → LevelRead → Answer
-ofSheet s read = byLevel s (levelFor (s .level) read)
+ofSheet s read = if s .length <ᵇ 3 * s .beam then Refused NoShip else byLevel s (levelFor (s .level) read)
 
 -- 1, 2, 3: what bytes may be refused for
 abbrev pub byReading : SheetRead → LevelRead → Answer

@@ -10,7 +10,7 @@ use Rattle.sheet.specs.Packing.{groupsOf, Bytes}
 use Rattle.sheet.specs.Sheets.{readOf}
 use Rattle.sheet.specs.declared.SheetRead.the-variants.{Good}
 use Rattle.design.specs.Design.{lanesFor, designOf}
-use Rattle.design.specs.Refusals.{sheetIn}
+use Rattle.design.specs.Refusals.{sheetIn, UnderThreeBeams}
 use Rattle.design.specs.declared.Figures.{Figures}
 use Rattle.design.specs.declared.Reason.{Reason}
 use Rattle.design.specs.declared.Answer.{Answer}
@@ -66,7 +66,21 @@ pub data NoEasier (figure : Figures → ℤ) : Answer → Answer → Type 0 wher
   no-less : {f g : Figures} → (figure f ≤ℤ figure g) → NoEasier figure (Answered f) (Answered g)
   refused : {a : Answer} {r : Reason} → NoEasier figure a (Refused r)
 
--- a greater figure in the field never makes a design easier, over any one table
-abbrev pub NeverEasier : Hardening → Type 0
-NeverEasier h = (easy hard table : List ℕ) → Bytes easy → Bytes hard → Harder (h .field) easy hard
+-- a sheet passes 18: its length is three beams or more
+abbrev pub Passes : List ℕ → Type 0
+Passes bytes = ¬ UnderThreeBeams (sheetIn bytes)
+
+-- which two sheets are compared, as a longer ship can cure 18: two that both pass it, two of which the easier does, or any two
+abbrev pub BothPass : List ℕ → List ℕ → Type 0
+BothPass easy hard = Passes easy × Passes hard
+
+abbrev pub EasierPasses : List ℕ → List ℕ → Type 0
+EasierPasses easy hard = Passes easy
+
+abbrev pub AnyTwo : List ℕ → List ℕ → Type 0
+AnyTwo easy hard = Unit {0}
+
+-- of the sheets compared, a greater figure in the field never makes a design easier, over any one table
+abbrev pub NeverEasier : (List ℕ → List ℕ → Type 0) → Hardening → Type 0
+NeverEasier Compared h = (easy hard table : List ℕ) → Bytes easy → Bytes hard → Harder (h .field) easy hard → Compared easy hard
     → NoEasier (h .kept) (designOf easy table) (designOf hard table)

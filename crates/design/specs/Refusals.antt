@@ -2,7 +2,7 @@
 use mathlib.Core.Path.{_≡_}
 use mathlib.Core.List.{List, [], _∷_}
 use mathlib.Core.Logic.{_≢_}
-use Prim.Native.Nat.{ℕ}
+use Prim.Native.Nat.{ℕ, _*_, _<_}
 use lib.ListN.{length}
 use Rattle.laws.specs.Rows.{Row, _when_}
 use Rattle.datum.specs.declared.Level.{Level}
@@ -21,11 +21,12 @@ use Rattle.depth.specs.declared.DepthFault.the-variants.{NoSquatEntry, SiltOver
 use Rattle.width.specs.Refusals.{TightBend, NoWidthEntry, widthFaultNumber}
 use Rattle.design.specs.Design.{depthStretch, lanesFor}
 use Rattle.design.specs.declared.Reason.{Reason}
-use Rattle.design.specs.declared.Reason.the-variants.{NoSheet, NoLevel, NoWidth, NoDepth}
+use Rattle.design.specs.declared.Reason.the-variants.{NoSheet, NoShip, NoLevel, NoWidth, NoDepth}
 
--- the number of each reason: that of the room that turned the sheet away
+-- the number of each reason: 18 is the design's own, any other that of the room that turned the sheet away
 abbrev pub reasonNumber : Reason → ℕ
 reasonNumber (NoSheet fault) = readFaultNumber fault
+reasonNumber NoShip = 18
 reasonNumber (NoLevel fault) = levelFaultNumber fault
 reasonNumber (NoWidth fault) = widthFaultNumber fault
 reasonNumber (NoDepth fault) = depthFaultNumber fault
@@ -33,6 +34,7 @@ reasonNumber (NoDepth fault) = depthFaultNumber fault
 -- the field, 0 unless the number is 3
 abbrev pub reasonField : Reason → ℕ
 reasonField (NoSheet fault) = readFaultField fault
+reasonField NoShip = 0
 reasonField (NoLevel fault) = 0
 reasonField (NoWidth fault) = 0
 reasonField (NoDepth fault) = 0
@@ -40,6 +42,10 @@ reasonField (NoDepth fault) = 0
 -- the sheet that bytes hold
 abbrev pub sheetIn : List ℕ → Sheet
 sheetIn bytes = sheetOf (groupsOf bytes)
+
+-- 18: the length is under three beams, as where the two have changed places
+abbrev pub UnderThreeBeams : Sheet → Type 0
+UnderThreeBeams s = s .length < 3 * s .beam
 
 -- the level of a sheet: its own, or off the record that of the frequency which D takes
 abbrev pub levelFrom : LevelSource → List ℕ → Level
@@ -77,6 +83,7 @@ rows bytes table =
     (1 when (length bytes ≢ size))
     ∷ (2 when SpareSet bytes)
     ∷ (3 when SomeBad (groupsOf bytes))
+    ∷ (18 when UnderThreeBeams (sheetIn bytes))
     ∷ (4 when OffRecord (sheetIn bytes .level) (TableUnfit table))
     ∷ (5 when OffRecord (sheetIn bytes .level) (RecordShort table))
     ∷ (6 when OffRecord (sheetIn bytes .level) (RangeWide table))

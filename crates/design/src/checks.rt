@@ -1,4 +1,4 @@
-// The checks of a sheet in their order: the level, the bend, the width's entries, the depth (definition, section 8).
+// The checks of a sheet in their order: the ship, the level, the bend, the width's entries, the depth (definition, section 8).
 ghost use mathlib.Core.Path.{_≡_};
 ghost use Prim.Native.Nat.{_<_, _^_};
 ghost use Rattle.design.specs.Design.{levelFor, pastEntries, pastBend, atLevel, ofSheet};
@@ -29,11 +29,15 @@ fn level_for(source: LevelSource, read: LevelRead) -> LevelRead
 pub fn of_sheet(sheet: Sheet, read: LevelRead) -> Answer
     ensures { λ r. ⌜ r ≡ ofSheet sheet read ⌝ }
 {
-    let source = sheet.level;
-    let level = level_for(source, read);
-    match level {
-        LevelRead::Found(found) => at_level(sheet, found),
-        LevelRead::NoLevel(fault) => Answer::Refused(Reason::NoLevel(fault)),
+    if (sheet.length as u32) < 3 * (sheet.beam as u32) {
+        Answer::Refused(Reason::NoShip)
+    } else {
+        let source = sheet.level;
+        let level = level_for(source, read);
+        match level {
+            LevelRead::Found(found) => at_level(sheet, found),
+            LevelRead::NoLevel(fault) => Answer::Refused(Reason::NoLevel(fault)),
+        }
     }
 }
 

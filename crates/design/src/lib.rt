@@ -19,9 +19,11 @@ mod checks;
 mod numbering;
 mod working;
 
-// Why a sheet is turned away: the refusal of the room that turns it away.
+// Why a sheet is turned away: the refusal of the room that turns it away, or the design's own.
 pub enum Reason {
     NoSheet(ReadFault),
+    // its length is under three beams
+    NoShip,
     NoLevel(LevelFault),
     NoWidth(WidthFault),
     NoDepth(DepthFault),
@@ -54,6 +56,7 @@ fn reason_number(reason: Reason) -> u8
 {
     match reason {
         Reason::NoSheet(fault) => sheet::read_fault_number(fault),
+        Reason::NoShip => 18,
         Reason::NoLevel(fault) => gauge::level_fault_number(fault),
         Reason::NoWidth(fault) => width::width_fault_number(fault),
         Reason::NoDepth(fault) => depth::depth_fault_number(fault),
@@ -66,6 +69,7 @@ fn reason_field(reason: Reason) -> u8
 {
     match reason {
         Reason::NoSheet(fault) => sheet::read_fault_field(fault),
+        Reason::NoShip => 0,
         Reason::NoLevel(_) => 0,
         Reason::NoWidth(_) => 0,
         Reason::NoDepth(_) => 0,

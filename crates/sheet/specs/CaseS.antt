@@ -6,14 +6,14 @@ use Rattle.datum.specs.Datum.{belowChart}
 use Rattle.sheet.specs.declared.Sheet.{Sheet}
 use Rattle.sheet.specs.declared.LevelSource.the-variants.{Given}
 
--- S with its speed, bed, wave allowance z2, silting P, lanes, turn and radius as the case has them
-abbrev pub alteredS : ℕ → ℕ → ℕ → ℕ → ℕ → ℕ → ℕ → Sheet
-alteredS speed bed allowance silting lanes turn radius =
+-- S with its length, beam, speed, bed, wave allowance z2, silting P, lanes, turn and radius as the case has them
+abbrev pub alteredS : ℕ → ℕ → ℕ → ℕ → ℕ → ℕ → ℕ → ℕ → ℕ → Sheet
+alteredS length beam speed bed allowance silting lanes turn radius =
     record {
       deadweight = 40000;
       draft = 1000;
-      length = 20000;
-      beam = 3000;
+      length = length;
+      beam = beam;
       speed = speed;
       bed = belowChart (pos bed);
       soil = 0;
@@ -40,7 +40,7 @@ alteredS speed bed allowance silting lanes turn radius =
     }
 
 abbrev pub sheetS : Sheet
-sheetS = alteredS 8 500 30 0 1 0 0
+sheetS = alteredS 20000 3000 8 500 30 0 1 0 0
 
 abbrev pub bytesS : List ℕ
 bytesS =

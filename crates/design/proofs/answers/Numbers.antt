@@ -20,7 +20,7 @@ use Rattle.design.specs.Numbers.{codeOf, fieldOf, numberCount, numbersOf
 use Rattle.design.specs.Refusals.{reasonNumber, reasonField, rows}
 use Rattle.design.specs.declared.Figures.{Figures}
 use Rattle.design.specs.declared.Reason.{Reason}
-use Rattle.design.specs.declared.Reason.the-variants.{NoSheet, NoLevel, NoWidth, NoDepth}
+use Rattle.design.specs.declared.Reason.the-variants.{NoSheet, NoShip, NoLevel, NoWidth, NoDepth}
 use Rattle.design.specs.declared.Answer.{Answer}
 use Rattle.design.specs.declared.Answer.the-variants.{Answered, Refused}
 
@@ -40,6 +40,7 @@ unfolding rows
 reason-present bytes table (NoSheet WrongLength) = tt
 reason-present bytes table (NoSheet SpareBitSet) = tt
 reason-present bytes table (NoSheet (BadField k)) = tt
+reason-present bytes table NoShip = tt
 reason-present bytes table (NoLevel WrongTable) = tt
 reason-present bytes table (NoLevel TooFewReadings) = tt
 reason-present bytes table (NoLevel RangeTooWide) = tt
@@ -86,6 +87,7 @@ pub field-zero : (r : Reason) → reasonNumber r ≢ 3 → reasonField r ≡ 0
 field-zero (NoSheet WrongLength) n = refl
 field-zero (NoSheet SpareBitSet) n = refl
 field-zero (NoSheet (BadField k)) n = absurd (n refl)
+field-zero NoShip n = refl
 field-zero (NoLevel fault) n = refl
 field-zero (NoWidth fault) n = refl
 field-zero (NoDepth fault) n = refl
@@ -100,18 +102,20 @@ reasonFrom number field =
     if number =ᵇ 1 then NoSheet WrongLength else
     (if number =ᵇ 2 then NoSheet SpareBitSet else
     (if number =ᵇ 3 then NoSheet (BadField field) else
+    (if number =ᵇ 18 then NoShip else
     (if number =ᵇ 4 then NoLevel WrongTable else
     (if number =ᵇ 5 then NoLevel TooFewReadings else
     (if number =ᵇ 6 then NoLevel RangeTooWide else
     (if number =ᵇ 7 then NoWidth BendTooTight else
     (if number =ᵇ 8 then NoWidth NoWidthEntry else
     (if number =ᵇ 13 then NoDepth NoSquatEntry else
-    (if number =ᵇ 14 then NoDepth SiltOver else NoDepth CutOver)))))))))
+    (if number =ᵇ 14 then NoDepth SiltOver else NoDepth CutOver))))))))))
 
 reason-back : (r : Reason) → reasonFrom (reasonNumber r) (reasonField r) ≡ r
 reason-back (NoSheet WrongLength) = refl
 reason-back (NoSheet SpareBitSet) = refl
 reason-back (NoSheet (BadField k)) = refl
+reason-back NoShip = refl
 reason-back (NoLevel WrongTable) = refl
 reason-back (NoLevel TooFewReadings) = refl
 reason-back (NoLevel RangeTooWide) = refl

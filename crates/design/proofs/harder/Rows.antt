@@ -35,7 +35,7 @@ use Rattle.width.proofs.Refusals.{tight-too, missing-too}
 use Rattle.design.specs.Design.{lanesFor}
 use Rattle.design.specs.Refusals.{sheetIn, levelIn, levelFrom, rows, BendTight, EntryMissing, OffRecord}
 use Rattle.design.specs.Answers.{stretchOf, FiguresAre}
-use Rattle.design.specs.Harder.{cut, NoEasier, no-less, refused as harder-refused}
+use Rattle.design.specs.Harder.{cut, Passes, NoEasier, no-less, refused as harder-refused}
 use Rattle.design.specs.declared.Figures.{Figures}
 use Rattle.design.specs.declared.Answer.{Answer}
 use Rattle.design.specs.declared.Answer.the-variants.{Answered, Refused}
@@ -105,7 +105,8 @@ module _ (easy hard table : List ℕ) (read : readOf easy ≡ Good (sheetIn easy
   no-depth-too : (fault : DepthFault) → FirstUnusable (stretchOf s (levelIn s table)) fault → (d : ℕ) → ¬ Meets (stretchOf s' (levelIn s' table)) d
   no-depth-too fault u d m = unusable-none _ fault u d (meets-too d m)
 
-  module _ (small : Bytes easy) where
+  -- 18 is passed by the easier where it is by the harder
+  module _ (small : Bytes easy) (ship : Passes hard → Passes easy) where
     -- each row that turns the easier sheet away turns the harder away, or leaves it without a depth
     rows-carried : (d : ℕ) → Meets (stretchOf s' (levelIn s' table)) d → Carried (rows easy table) (rows hard table)
     unfolding rows
@@ -114,6 +115,7 @@ module _ (easy hard table : List ℕ) (read : readOf easy ≡ Good (sheetIn easy
         (λ h. good .0)
         & (λ h. good .1 .0)
         & (λ h. good .1 .1 .0)
+        & ship
         & (λ h row. h (off-record-too _ row))
         & (λ h row. h (off-record-too _ row))
         & (λ h row. h (off-record-too _ row))

@@ -2,10 +2,13 @@
 use mathlib.Core.Path.{_≡_, refl, sym, ap, subst⁻¹}
 use mathlib.Core.List.{List, []}
 use mathlib.Core.Logic.{_≢_}
-use Prim.Native.Nat.{ℕ}
+use Prim.Native.Nat.{ℕ, _*_}
 use native.Mathlib.Omega.{arith}
 use lib.IntN.{pos}
-use Rattle.laws.proofs.Rows.{Told, Call, from, onward}
+use borrow.Author.Tests.{ltb-true, ltb-false}
+use Rattle.laws.specs.Choice.{_<ᵇ_}
+use Rattle.laws.specs.Rows.{_when_}
+use Rattle.laws.proofs.Rows.{Told, Call, from, onward, tested}
 use Rattle.datum.specs.declared.Level.{Level}
 use Rattle.sheet.specs.Packing.{Bytes}
 use Rattle.sheet.specs.Sheets.{readOf}
@@ -43,8 +46,9 @@ use Rattle.width.proofs.Refusals.{entering, entries-told, bends, bend-told}
 use Rattle.class.specs.Classes.{widthClass}
 use Rattle.design.specs.Design.{widthStretch, figuresOf, byDepth, pastEntries, byEntries, pastBend, byBend, lanesFor, atLevel, byLevel, levelFor, ofSheet, byReading, designAt, designOf}
 use Rattle.design.specs.Numbers.{codeOf}
-use Rattle.design.specs.Refusals.{sheetIn, levelIn, offRecord, rows}
+use Rattle.design.specs.Refusals.{sheetIn, UnderThreeBeams, levelIn, offRecord, rows}
 use Rattle.design.specs.Answers.{stretchOf, wideningIn, FiguresAre, NamesFirst}
+use Rattle.design.specs.declared.Reason.the-variants.{NoShip}
 use Rattle.design.specs.declared.Answer.{Answer}
 use Rattle.design.specs.declared.Answer.the-variants.{Answered, Refused}
 use Rattle.design.proofs.rows.Rooms.{levelsFrom, level-told}
@@ -158,12 +162,20 @@ module _ (bytes table : List ℕ) where
   level-handed (NoLevel TooFewReadings) none = (refl, λ three. absurd (omega arith))
   level-handed (NoLevel RangeTooWide) none = (refl, λ three. absurd (omega arith))
 
-  of-sheet-told : From 4 (ofSheet sheet (designLevel table))
-  unfolding ofSheet rows
-  of-sheet-told =
+  past-ship-told : From 4 (byLevel sheet (levelFor (sheet .level) (designLevel table)))
+  unfolding rows
+  past-ship-told =
       onward (levelsFrom (sheet .level) table) (designs bytes table) (byLevel sheet) level-handed (offRecord (sheet .level) (levelRows table))
       (from 7 (rows bytes table)) (levelFor (sheet .level) (designLevel table)) (level-told (sheet .level) table)
       (λ e. subst⁻¹ (λ (read : LevelRead). From 7 (byLevel sheet read)) e at-level-told)
+
+  -- 18
+  of-sheet-told : From 18 (ofSheet sheet (designLevel table))
+  unfolding ofSheet rows
+  of-sheet-told =
+      tested (designs bytes table) (18 when UnderThreeBeams sheet) (from 4 (rows bytes table)) (sheet .length <ᵇ 3 * sheet .beam) (Refused NoShip) _
+      (ltb-true (sheet .length) (3 * sheet .beam)) (λ t under. let over = ltb-false (sheet .length) (3 * sheet .beam) t in omega arith)
+      (refl, λ three. absurd (omega arith)) past-ship-told
 
   -- 1, 2, 3
   abbrev reading : SheetRead → Answer
@@ -178,5 +190,5 @@ module _ (bytes table : List ℕ) where
   pub told : Bytes bytes → Told (designs bytes table) (rows bytes table) (designOf bytes table)
   unfolding designOf designAt rows
   told small =
-      onward (reads bytes) (designs bytes table) reading reading-handed (readRows bytes) (from 4 (rows bytes table)) (readOf bytes)
-      (read-told bytes small) (λ e. subst⁻¹ (λ (read : SheetRead). From 4 (reading read)) e of-sheet-told)
+      onward (reads bytes) (designs bytes table) reading reading-handed (readRows bytes) (from 18 (rows bytes table)) (readOf bytes)
+      (read-told bytes small) (λ e. subst⁻¹ (λ (read : SheetRead). From 18 (reading read)) e of-sheet-told)
