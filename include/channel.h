@@ -69,16 +69,17 @@ enum channel_number {
 /* The codes that the call can give; 9 is retired. There is no level table here, so a sheet whose level comes off the record gets 4. */
 enum channel_code {
     CHANNEL_ANSWERED = 0,
-    CHANNEL_WRONG_LENGTH = 1,     /* not 28 bytes */
+    CHANNEL_WRONG_LENGTH = 1,       /* not 28 bytes */
     CHANNEL_SPARE_BIT_SET = 2,
-    CHANNEL_BAD_FIELD = 3,        /* CHANNEL_FIELD says which */
-    CHANNEL_NO_TABLE = 4,         /* a level off the record */
+    CHANNEL_BAD_FIELD = 3,          /* CHANNEL_FIELD says which */
+    CHANNEL_NO_TABLE = 4,           /* a level off the record */
     CHANNEL_BEND_TOO_TIGHT = 7,
-    CHANNEL_NO_WIDTH_ENTRY = 8,   /* cross current or wave over what sheltered water has */
-    CHANNEL_PLACE_TOO_SMALL = 12, /* place_length under 52; nothing is written */
-    CHANNEL_NO_SQUAT_ENTRY = 13,  /* no depth: the first column that the worksheet cannot use has no squat entry, */
-    CHANNEL_SILT_OVER = 14,       /* or silt over 120 cm, */
-    CHANNEL_CUT_OVER = 15         /* or a cut over 30 m */
+    CHANNEL_NO_WIDTH_ENTRY = 8,     /* cross current or wave over what sheltered water has */
+    CHANNEL_PLACE_TOO_SMALL = 12,   /* place_length under 52; nothing is written */
+    CHANNEL_NO_SQUAT_ENTRY = 13,    /* no depth: the first column that the worksheet cannot use has no squat entry, */
+    CHANNEL_SILT_OVER = 14,         /* or silt over 120 cm, */
+    CHANNEL_CUT_OVER = 15,          /* or a cut over 30 m */
+    CHANNEL_UNDER_THREE_BEAMS = 18  /* the length is under three beams; tested straight after 3 */
 };
 
 /* Plans the sheet. 12 is tested first. Otherwise the code is returned and the first 52 bytes of place get the numbers;

@@ -13,14 +13,14 @@ const TABLES: usize = 60;
 const SHEETS: usize = 250;
 
 /// The codes that are each to be seen, of the sheets whose level is off the record.
-const CODES: [usize; 12] = [0, 1, 2, 3, 4, 5, 6, 7, 8, 13, 14, 15];
+const CODES: [usize; 13] = [0, 1, 2, 3, 4, 5, 6, 7, 8, 13, 14, 15, 18];
 
 /// The serving program, the count, and how often each code was seen off the record and at a given level.
 struct Designs {
     handles: Handles,
     report: Report,
-    off_record: [u64; 16],
-    given: [u64; 16],
+    off_record: [u64; 32],
+    given: [u64; 32],
 }
 
 impl Designs {
@@ -28,8 +28,8 @@ impl Designs {
         Designs {
             handles: Handles::start(),
             report: Report::new("designs", 0),
-            off_record: [0; 16],
-            given: [0; 16],
+            off_record: [0; 32],
+            given: [0; 32],
         }
     }
 

@@ -1,13 +1,13 @@
 //! Demand 3, of pairs of sheets that differ in one figure: the one with the greater figure is no easier to design, at given
-//! levels and over tables.
+//! levels and over tables. A longer ship can cure 18, so two lengths are compared only where the shorter passes it.
 
 use crate::gauges::shown;
 use crate::handles::{Handle, Handles, NUMBERS};
 use crate::parts::in_parts;
 use crate::report::{hex, Report};
 use crate::second::random::{self, Random};
-use crate::second::sheet::{self, BYTES, FIELDS, TABLE};
-use crate::second::{gauge, width};
+use crate::second::sheet::{self, Sheet, BYTES, FIELDS, TABLE};
+use crate::second::{design, gauge, width};
 
 const PARTS: u64 = 16;
 const SHEETS: usize = 2_500;
@@ -26,10 +26,13 @@ const PART: usize = RETURNED + 96;
 const CUT: usize = 5;
 const WIDTH: usize = 7;
 
+/// The field that has the length.
+const LENGTH: usize = 3;
+
 /// Each figure that makes a sheet harder, by its field's number, and what it never lessens.
 const HARDENINGS: [(usize, usize); 11] = [
     (2, CUT),
-    (3, CUT),
+    (LENGTH, CUT),
     (5, CUT),
     (8, CUT),
     (9, CUT),
@@ -66,15 +69,19 @@ fn numbers(part: &[u8]) -> Numbers {
     std::array::from_fn(number)
 }
 
-fn lanes(figures: &[i64; FIELDS]) -> i64 {
-    width::lanes(&sheet::read(&sheet::pack(figures)).expect("a sheet"))
+fn of(figures: &[i64; FIELDS]) -> Sheet {
+    sheet::read(&sheet::pack(figures)).expect("a sheet")
 }
 
-/// The pair of a field, where its figure can be greater and the lanes stay.
+fn lanes(figures: &[i64; FIELDS]) -> i64 {
+    width::lanes(&of(figures))
+}
+
+/// The pair of a field, where its figure can be greater, the lanes stay, and of two lengths the shorter passes 18.
 fn raised(rng: &mut Random, figures: &[i64; FIELDS], number: usize, kept: usize) -> Option<Pair> {
     let row = &TABLE[number - 1];
     let figure = figures[number - 1];
-    if figure == row.greatest {
+    if figure == row.greatest || number == LENGTH && design::under_three_beams(&of(figures)) {
         return None;
     }
     let mut harder = *figures;

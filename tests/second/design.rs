@@ -59,9 +59,17 @@ fn level_of(sheet: &Sheet, record: Result<i32, u32>) -> Result<i64, Refusal> {
     }
 }
 
-/// "A design checks 1 to 8 in order, then the depth's 13, 14, 15."
+/// "A sheet whose length is under three beams."
+pub fn under_three_beams(sheet: &Sheet) -> bool {
+    sheet.length() < 3 * sheet.beam()
+}
+
+/// "A design checks 1, 2, 3, then 18, then 4 to 8, then the depth's 13, 14, 15."
 fn work(bytes: &[u8], record: Result<i32, u32>) -> Result<Answer, Refusal> {
     let sheet = read(bytes)?;
+    if under_three_beams(&sheet) {
+        return Err(refusal(18));
+    }
     let level = level_of(&sheet, record)?;
     if width::too_tight(&sheet) {
         return Err(refusal(7));

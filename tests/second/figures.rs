@@ -166,6 +166,13 @@ fn starred(program: &impl Program, tally: &mut Tally) {
     tally.check("S, turn 30, radius 1,500", widening(1_500), (0, 1_915));
     tally.check("S, turn 30, radius 2,000", widening(2_000), (0, 0));
     tally.check("S, turn 30, radius 999", widening(999), (7, 0));
+    let ship = |length| answer(program, &[(3, length), (4, 4_000)]);
+    let code = |length| ship(length).code;
+    tally.check("S, length 6,000, beam 4,000: code", code(6_000), 18);
+    tally.check("S, length 11,999, beam 4,000: code", code(11_999), 18);
+    tally.check("S, length 12,000, beam 4,000: code", code(12_000), 0);
+    let figures = (ship(12_000).cut, ship(12_000).width);
+    tally.check("S, length 12,000, beam 4,000", figures, (1_150, 19_200));
 }
 
 /// "S, lanes 0", and the levels of two records.
@@ -239,6 +246,39 @@ fn bad_tables(program: &impl Program, tally: &mut Tally) {
         tally.check(&what, ends.map(level), [Ok(row), Ok(row)]);
     }
     tally.check("6: D 141", level(141), Err(6));
+}
+
+/// Number 18: in a design, straight after 3 and before 4, and not in reading or writing.
+fn short_ships(program: &impl Program, tally: &mut Tally) {
+    let code = |changes: &[(usize, i64)], table: &[u32]| {
+        let short = [&[(3, 6_000), (4, 4_000)], changes].concat();
+        code_and_field(program, &sheet::pack(&s_with(&short)), table)
+    };
+    let empty = gauge::empty();
+    tally.check("18: given level", code(&[], &empty), (18, 0));
+    tally.check("3 before 18", code(&[(28, 2_001)], &empty), (3, 28));
+    let off_record = [(27, 0), (28, 0)];
+    tally.check("18 before 4", code(&off_record, &[0; 2_000]), (18, 0));
+    tally.check("18 before 5", code(&off_record, &empty), (18, 0));
+    let bend = [(25, 30), (26, 100)];
+    tally.check("18 before 7", code(&bend, &empty), (18, 0));
+    let pairs = [(2_000, 666), (2_000, 667), (20_999, 7_000), (21_000, 7_000)];
+    let ship = |(length, beam)| code(&[(3, length), (4, beam)], &empty).0;
+    tally.check("18: least and greatest", pairs.map(ship), [0, 18, 18, 0]);
+    let ships = [(6_000, 2_000), (7_000, 2_333), (2_000, 500)];
+    let exchanged = |(length, beam)| ship((beam, length));
+    tally.check("three ships", ships.map(ship), [0, 0, 0]);
+    tally.check(
+        "length and beam exchanged",
+        ships.map(exchanged),
+        [18, 18, 3],
+    );
+    let short = s_with(&[(3, 6_000), (4, 4_000)]);
+    let mut place = [7; 28];
+    let written = program.write(&short, None, &mut place);
+    tally.check("18 is not of writing", written, Ok(()));
+    let sheet = Sheet { figures: short };
+    tally.check("18 is not of reading", program.read(&place), Ok(sheet));
 }
 
 /// Numbers 7, 8, 13, 14, 15, and their order.
@@ -345,6 +385,8 @@ fn planning(program: &impl Program, tally: &mut Tally) {
     tally.check("4: no table", program.plan(&off_record, &mut place), 4);
     tally.check("its code", place[..8] == [0, 0, 0, 4, 0, 0, 0, 0], true);
     tally.check("1: planned", program.plan(&s[..3], &mut place), 1);
+    let short = sheet::pack(&s_with(&[(3, 6_000), (4, 4_000), (27, 0), (28, 0)]));
+    tally.check("18 before 4", program.plan(&short, &mut place), 18);
 }
 
 /// The printing program's other rules.
@@ -423,8 +465,9 @@ fn random_sheets(tally: &mut Tally) {
     tally.check("random sheets read back", back, RANDOM_SHEETS);
     tally.check("worksheet's cut and s as tried", agree, RANDOM_SHEETS);
     println!("codes {codes:?}, columns tried {columns:?}");
-    let met = [0, 7, 8, 13, 14, 15].iter().all(|&code| codes[code] > 0);
-    tally.check("0, 7, 8, 13, 14, 15 met", met, true);
+    let wanted = [0, 7, 8, 13, 14, 15, 18];
+    let met = wanted.iter().all(|&code| codes[code] > 0);
+    tally.check("0, 7, 8, 13, 14, 15, 18 met", met, true);
     tally.check("9 never", codes[9], 0);
     let met = columns.iter().all(|&count| count > 0);
     tally.check("1, 2, 3 columns met", met, true);
@@ -445,6 +488,7 @@ pub fn right_in(name: &str, program: &impl Program) -> bool {
     lanes_and_levels(program, &mut tally);
     bad_bytes(program, &mut tally);
     bad_tables(program, &mut tally);
+    short_ships(program, &mut tally);
     bad_designs(program, &mut tally);
     adding(program, &mut tally);
     writing(program, &mut tally);

@@ -89,6 +89,11 @@ fn keep_pairs(rng: &mut Random, figures: &mut [i64; FIELDS]) {
     }
 }
 
+/// Takes away 18: a beam of at most a third of the length.
+fn keep_ship(figures: &mut [i64; FIELDS]) {
+    figures[3] = figures[3].min(figures[2] / 3);
+}
+
 /// Takes away the commonest reasons for 7, 8 and no depth.
 fn calm(rng: &mut Random, figures: &mut [i64; FIELDS]) {
     if figures[13] == 1 {
@@ -118,6 +123,11 @@ fn some_s(rng: &mut Random, inputs: &Inputs) -> i64 {
     let tries = depth::worksheet(inputs).tries;
     let last = tries[tries.len() - 1];
     rng.pick(&[tries[0], last, last]).s
+}
+
+/// The length about three beams.
+fn near_three_beams(rng: &mut Random, figures: &mut [i64; FIELDS]) {
+    figures[2] = within(3, 3 * figures[3] + rng.about());
 }
 
 /// The radius about a limit of the bend rules.
@@ -219,12 +229,13 @@ fn near_width(rng: &mut Random, figures: &mut [i64; FIELDS]) {
 }
 
 fn near_some_limit(rng: &mut Random, figures: &mut [i64; FIELDS]) {
-    match rng.below(6) {
+    match rng.below(7) {
         0 => near_radius(rng, figures),
         1 => near_lanes(rng, figures),
         2 => near_column(rng, figures),
         3 => near_silt(rng, figures),
         4 => near_s(rng, figures),
+        5 => near_three_beams(rng, figures),
         _ => near_width(rng, figures),
     }
 }
@@ -236,6 +247,9 @@ pub fn valid_sheet(rng: &mut Random) -> [i64; FIELDS] {
         figures[number - 1] = figure(rng, number);
     }
     keep_pairs(rng, &mut figures);
+    if rng.below(16) != 0 {
+        keep_ship(&mut figures);
+    }
     if rng.below(3) != 0 {
         calm(rng, &mut figures);
     }

@@ -38,7 +38,7 @@ use Rattle.depth.specs.Depth.{Meets}
 use Rattle.depth.specs.declared.DepthFault.{DepthFault}
 use Rattle.design.specs.Design.{levelFor, designAt, designOf}
 use Rattle.design.specs.Numbers.{codeOf, fieldOf, numberCount, numbersOf}
-use Rattle.design.specs.Refusals.{reasonNumber, reasonField, sheetIn, levelIn, offRecord, rows}
+use Rattle.design.specs.Refusals.{reasonNumber, reasonField, sheetIn, UnderThreeBeams, levelIn, offRecord, rows}
 use Rattle.design.specs.Answers.{stretchOf, FiguresAre}
 use Rattle.design.specs.Harder.{cut, Hardening, hardenings, BothPass, EasierPasses, AnyTwo, NeverEasier, _never-lessens_}
 use Rattle.design.specs.Starred.{writing, starredSheets, starredNumbers}
@@ -52,6 +52,7 @@ use Rattle.design.proofs.rows.Readings.{sheet-read, level-read, other-l
 use Rattle.design.proofs.answers.Figures.{figures-only}
 use Rattle.design.proofs.Fitting.{design-fits}
 use Rattle.design.proofs.rows.Exactly.{design-exactly, field-exactly, figures-exactly, no-depth-only as no-depth-said}
+use Rattle.design.proofs.rows.Exchanged.{exchanged}
 use Rattle.design.proofs.harder.Never as the-harder
 use Rattle.design.proofs.harder.Cured as the-cure
 use Rattle.design.proofs.Starred as the-starred
@@ -142,6 +143,12 @@ module _ (bytes table : List ℕ) (small : Bytes bytes) where
   -- 3: the first bad field's number is given.
   pub first-bad-field : (k : ℕ) → (designOf bytes table ≡ Refused (NoSheet (BadField k))) ↔ (Least (Bad (groupsOf bytes)) k × NoneBefore (rows bytes table) 3)
   first-bad-field = field-exactly bytes table small
+
+-- 18: a sheet that passes it, with length and beam in each other's places, does not: where it is a sheet at all, its number is 18.
+pub exchanged-is-18 : (bytes other table : List ℕ) → Bytes other → readOf bytes ≡ Good (sheetIn bytes) → readOf other ≡ Good (sheetIn other)
+    → ¬ UnderThreeBeams (sheetIn bytes) → sheetIn other .length ≡ sheetIn bytes .beam → sheetIn other .beam ≡ sheetIn bytes .length
+    → codeOf (designOf other table) ≡ 18
+exchanged-is-18 = exchanged
 
 -- 1, whatever the level: not 28 bytes.
 pub other-length-one : (bytes : List ℕ) (read : LevelRead) → length bytes ≢ size → codeOf (designAt bytes read) ≡ 1

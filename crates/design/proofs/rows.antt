@@ -3,3 +3,4 @@ pub mod Rooms
 pub mod Checked
 pub mod Readings
 pub mod Exactly
+pub mod Exchanged
