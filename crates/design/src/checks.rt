@@ -26,6 +26,7 @@ fn level_for(source: LevelSource, read: LevelRead) -> LevelRead
     }
 }
 
+// A length under three beams is no ship's: the two may have changed places. Then the level.
 pub fn of_sheet(sheet: Sheet, read: LevelRead) -> Answer
     ensures { λ r. ⌜ r ≡ ofSheet sheet read ⌝ }
 {

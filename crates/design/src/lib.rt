@@ -50,7 +50,7 @@ pub enum Answer {
     Refused(Reason),
 }
 
-// The number of a reason: each room gives those of its own refusals.
+// The number of a reason: each room gives those of its own refusals, and 18 is the design's.
 fn reason_number(reason: Reason) -> u8
     ensures { λ r. ⌜ r ≡ reasonNumber reason ⌝ }
 {
