@@ -2,9 +2,11 @@
 use mathlib.Core.Path.{_≡_, ap, _∙_}
 use mathlib.Core.Logic.{_↔_}
 use mathlib.Core.List.{List, map}
-use Prim.Native.Nat.{ℕ, _-_, _≤_}
+use Prim.Native.Nat.{ℕ, _+_, _-_, _*_, _^_, _≤_, _<_}
 use native.Mathlib.Omega.{arith}
 use lib.ListN.{length, getD}
+use Rattle.laws.specs.Rounding.{up}
+use Rattle.laws.specs.Extremes.{Least}
 use Rattle.laws.specs.Rows.{Exactly}
 use Rattle.laws.proofs.Unique.{one-answer}
 use Rattle.lanes.specs.declared.Lanes.{Lanes}
@@ -19,9 +21,9 @@ use Rattle.depth.specs.declared.DepthFigures.{DepthFigures}
 use Rattle.depth.specs.declared.Depth.{Depth}
 use Rattle.depth.specs.declared.Depth.the-variants.{Cut, NoCut}
 use Rattle.depth.specs.Interval.{intervalOf}
-use Rattle.depth.specs.Squat.{columnNumber, squatReading, squatOf}
-use Rattle.depth.specs.Depth.{Meets, AsDefined, Ranges, depthFaultNumber, depthNumber, NoDepthNumber}
-use Rattle.depth.specs.Worksheet.{columnTry, blankTry, findingOf, tries, worksheetOf, answerOf, workDepth, Forward, Followed, Counted}
+use Rattle.depth.specs.Squat.{none, columnNumber, squatReading, squatOf}
+use Rattle.depth.specs.Depth.{z3, naturalOf, filling, sailing, z4, IsFigure, Meets, AsDefined, Ranges, depthFaultNumber, depthNumber, NoDepthNumber}
+use Rattle.depth.specs.Worksheet.{endless, columnTry, blankTry, findingOf, tries, worksheetOf, answerOf, workDepth, Forward, Followed, Counted}
 use Rattle.depth.specs.Reasons.{FirstUnusable, Reasoned, depthRows}
 use Rattle.depth.specs.Harder.{Harder, Deeper, NeverCured}
 use Rattle.depth.specs.Starred.{cases, figures}
@@ -29,8 +31,10 @@ use Rattle.depth.proofs.squat.Table.{lanes-columns-speeds}
 use Rattle.depth.proofs.walks.Tries.{tries-count}
 use Rattle.depth.proofs.walks.Filled.{work-of-last, last-line-is}
 use Rattle.depth.proofs.walks.Following.{one-following}
+use Rattle.depth.proofs.cuts.Settling as settling
 use Rattle.depth.proofs.cuts.LeastCut as least-cut
 use Rattle.depth.proofs.cuts.Reasons as reasons
+use Rattle.depth.proofs.cuts.Silted as silted
 use Rattle.depth.proofs.Refusals.{depth-exactly}
 use Rattle.depth.proofs.cuts.Demand.{work-deeper, work-never-cured, meets-too}
 use Rattle.depth.proofs.Cases.{computed}
@@ -40,7 +44,37 @@ pub squat-never-falls : (lanes lanes' : Lanes) (c c' : Column) (speed speed' : �
     → columnNumber c ≤ columnNumber c' → 2 ≤ speed → speed ≤ speed' → squatOf lanes c speed ≤ squatOf lanes' c' speed'
 squat-never-falls = lanes-columns-speeds
 
--- The cut is the least d from 1 to 3,000 with an entry at its column, z4 at most 120 and d at least s + z4; the s of that column is the sailing depth.
+-- The line of a column shows its figure, the least d that is at least s + z4 of d itself, and that z4.
+pub figure-shown : (q : Stretch) (c : Column) (d : ℕ) → IsFigure q c d → (columnTry q c .figure .0 ≡ d) × (columnTry q c .silt ≡ z4 q c d)
+unfolding columnTry
+figure-shown = settling.line-figure
+
+-- It is computed and not searched: N and the dug part of s over the part that the silt leaves.
+pub figure-computed : (q : Stretch) (c : Column) → naturalOf q < sailing q c → filling q < 100000
+    → columnTry q c .figure .0 ≡ naturalOf q + up (100000 * (sailing q c - naturalOf q)) (100000 - filling q)
+unfolding columnTry
+figure-computed = silted.figure-computed
+
+-- A column has no figure exactly when s exceeds N and P × interval is 100,000 or more. For an s under 2^19, as every stretch of the program has,
+-- its silt is marked endless exactly then.
+pub no-figure-exactly : (q : Stretch) (c : Column)
+    → ((d : ℕ) → IsFigure q c d → ⊥) ↔ ((naturalOf q < sailing q c) × (100000 ≤ filling q))
+no-figure-exactly = settling.no-figure-exactly
+
+pub endless-exactly : (q : Stretch) (c : Column) → sailing q c < 2 ^ 19
+    → (columnTry q c .silt ≡ endless) ↔ ((naturalOf q < sailing q c) × (100000 ≤ filling q))
+unfolding columnTry
+endless-exactly = silted.endless-exactly
+
+-- Such a product gives 14 whenever the s of column A, which has an entry, exceeds N. Where that s does not, it is the cut, whatever the silting.
+pub filled-is-14 : (q : Stretch) → z3 q A < none → naturalOf q < sailing q A → 100000 ≤ filling q → depthNumber (workDepth q) ≡ 14
+filled-is-14 = silted.filled-is-14
+
+pub not-dug-cut : (q : Stretch) → z3 q A < none → sailing q A ≤ naturalOf q → sailing q A ≤ 3000 → Least (Meets q) (sailing q A)
+not-dug-cut = silted.not-dug-cut
+
+-- The cut is the least d from 1 to 3,000 with an entry at its column, z4 of d itself at most 120 and d at least s + z4; the s of that column is the
+-- sailing depth.
 pub depth-is-as-defined : (q : Stretch) → AsDefined q (workDepth q)
 depth-is-as-defined = least-cut.work-as-defined
 

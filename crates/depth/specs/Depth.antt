@@ -54,19 +54,27 @@ sailingWith q squat = q .draft + z0 q + z1 q + z2 q + squat
 unfoldable pub sailing : Stretch → Column → ℕ
 sailing q c = sailingWith q (z3 q c)
 
--- silt = P × interval × (s - N) / 100,000, rounded up; 0 when s ≤ N, as nothing is then dug
-unfoldable pub siltTo : Stretch → ℕ → ℕ
-siltTo q s = up (q .silting * q .interval * dug (naturalOf q) s) 100000
+-- P × interval: the part of what is dug that silts up until it is dredged again, in hundred-thousandths
+abbrev pub filling : Stretch → ℕ
+filling q = q .silting * q .interval
 
--- z4: the silt of a column
-unfoldable pub z4 : Stretch → Column → ℕ
-z4 q c = siltTo q (sailing q c)
+-- z4: the silt that falls into the whole of a cut d, P × interval × (d - N, or 0 if negative) / 100,000, rounded up; 0 when s ≤ N
+unfoldable pub z4 : Stretch → Column → ℕ → ℕ
+z4 q c d = if sailing q c ≤ᵇ naturalOf q then 0 else up (filling q * dug (naturalOf q) d) 100000
 
--- a column serves a cut d: it has an entry, z4 is at most 120, and d is at least s + z4
+-- a cut d is deep enough in a column: at least s + z4
+abbrev pub Deep : Stretch → Column → ℕ → Type 0
+Deep q c d = sailing q c + z4 q c d ≤ d
+
+-- the figure of a column: the least cut that is deep enough in it
+abbrev pub IsFigure : Stretch → Column → ℕ → Type 0
+IsFigure q c = Least (Deep q c)
+
+-- a column serves a cut d: it has an entry, z4 is at most 120, and d is deep enough
 pub record Serves (q : Stretch) (c : Column) (d : ℕ) : Type 0 where
   pub entry : z3 q c < none
-  pub silt : z4 q c ≤ 120
-  pub deep : sailing q c + z4 q c ≤ d
+  pub silt : z4 q c d ≤ 120
+  pub deep : Deep q c d
 
 -- the column in which a cut falls
 abbrev pub ownColumn : Stretch → ℕ → Column

@@ -45,7 +45,7 @@ abbrev pub figures : List Depth
 figures =
     cut 1170 1170 2
     ∷ cut 1210 1210 2
-    ∷ cut 1237 1170 2
+    ∷ cut 1245 1170 2
     ∷ cut 1180 1180 2
     ∷ cut 1156 1156 1
     ∷ cut 1171 1171 2

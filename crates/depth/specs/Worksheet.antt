@@ -1,10 +1,11 @@
 -- The worksheet (section 4.7): how the cut is found, column by column.
 use mathlib.Core.Path.{_≡_}
-use Prim.Native.Nat.{ℕ, zero, suc, _+_, _<_}
+use Prim.Native.Nat.{ℕ, zero, suc, _+_, _-_, _*_, _<_}
 use mathlib.Core.Bool.{Bool, true, false}
 use mathlib.Core.List.{List, [], _∷_, _++_}
 use lib.ListN.{length, take}
 use Rattle.laws.specs.Choice.{if_then_else_, _≤ᵇ_, _<ᵇ_, _=ᵇ_}
+use Rattle.laws.specs.Rounding.{up}
 use Rattle.datum.specs.Datum.{below}
 use Rattle.depth.specs.declared.Stretch.{Stretch}
 use Rattle.depth.specs.declared.Column.{Column}
@@ -18,23 +19,41 @@ use Rattle.depth.specs.declared.Worksheet.{Worksheet}
 use Rattle.depth.specs.declared.Depth.{Depth}
 use Rattle.depth.specs.declared.Depth.the-variants.{Cut, NoCut}
 use Rattle.depth.specs.Squat.{none, columnNumber}
-use Rattle.depth.specs.Depth.{z3, z4, sailing, ownColumn}
+use Rattle.depth.specs.Depth.{z3, naturalOf, dug, filling, sailing, ownColumn}
 
 -- a depth below the design level as the worksheet reckons it
 abbrev pub reckoned : ℕ → ReckonedDepth
 reckoned cm = record { 0 = cm }
 
--- a column's figure: s + z4
-unfoldable pub figure : Stretch → Column → ℕ
-figure q c = sailing q c + z4 q c
+-- no silt of a cut: in this column every cut silts up whole, so none is its figure; greater than every silt
+abbrev pub endless : ℕ
+endless = 999999999999
 
--- the line of a column: z3, s, z4, the figure and the column it falls in
+-- the silt of the least cut that is at least s and its own silt, worked out: 0 when s ≤ N, else P × interval × (s - N) / (100,000 - P × interval),
+-- rounded up; endless where P × interval is 100,000 or more
+unfoldable pub siltOver : Stretch → ℕ → ℕ
+siltOver q s =
+    if s ≤ᵇ naturalOf q
+    then 0
+    else (if 100000 ≤ᵇ filling q
+    then endless
+    else up (filling q * dug (naturalOf q) s) (100000 - filling q))
+
+-- the silt of a column
+unfoldable pub silt : Stretch → Column → ℕ
+silt q c = siltOver q (sailing q c)
+
+-- a column's figure: s and its silt
+unfoldable pub figure : Stretch → Column → ℕ
+figure q c = sailing q c + silt q c
+
+-- the line of a column: z3, s, the silt, the figure and the column it falls in
 unfoldable pub columnTry : Stretch → Column → Try
 columnTry q c = record {
   column = c;
   squat = z3 q c;
   sailing = reckoned (sailing q c);
-  silt = z4 q c;
+  silt = silt q c;
   figure = reckoned (figure q c);
   «falls_in» = ownColumn q (figure q c);
 }

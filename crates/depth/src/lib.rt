@@ -5,8 +5,8 @@ ghost use lib.ListN.{getD};
 ghost use Rattle.laws.specs.Rounding.{up};
 ghost use Rattle.depth.specs.Interval.{intervalOf};
 ghost use Rattle.depth.specs.Squat.{columnNumber, squatReading, squatOf};
-ghost use Rattle.depth.specs.Depth.{dug, columnOf, sailingWith, siltTo, depthFaultNumber};
-ghost use Rattle.depth.specs.Worksheet.{reckoned, columnTry, blankTry, findingOf, movesOn, answerOf, worksheetOf, workDepth};
+ghost use Rattle.depth.specs.Depth.{dug, columnOf, sailingWith, depthFaultNumber};
+ghost use Rattle.depth.specs.Worksheet.{reckoned, siltOver, columnTry, blankTry, findingOf, movesOn, answerOf, worksheetOf, workDepth};
 use datum::BelowLevel;
 use lanes::Lanes;
 
@@ -35,7 +35,8 @@ pub enum Column {
 pub struct ReckonedDepth(pub u64);
 
 // A line of the worksheet: a column, its squat z3 (NONE for no entry, and then the rest means nothing), sailing depth s,
-// silt z4 and figure s + z4, in cm, and the column that the figure falls in.
+// figure, which is the least cut that is at least s and its own silt, that silt z4 (ENDLESS where no cut is, and then the
+// rest means nothing), in cm, and the column that the figure falls in.
 pub struct Try {
     pub column: Column,
     pub squat: u16,
@@ -80,6 +81,9 @@ pub enum Depth {
 
 // The mark of no entry in the squat table: greater than every entry.
 pub const NONE: u16 = 9999;
+
+// The mark of a column in which every cut silts up whole, so that none is its figure: greater than every silt.
+pub const ENDLESS: u64 = 999999999999;
 
 // The squat in cm, at the speeds 2 to 12: columns A, B and C, each lone and then passing.
 const SQUAT: [[u16; 11]; 6] = [
@@ -197,14 +201,22 @@ fn sailing_depth(stretch: Stretch, squat: u16) -> ReckonedDepth
     ReckonedDepth(draft as u64 + list + keel + stretch.allowance as u64 + squat as u64)
 }
 
-// The silt over what is dug down to a sailing depth, rounded up.
-fn silt_to(stretch: Stretch, sailing: ReckonedDepth) -> u64
+// The silt that falls into the least cut that is at least a sailing depth and this silt: that cut is computed and not searched.
+fn silt_over(stretch: Stretch, sailing: ReckonedDepth) -> u64
     requires { ⌜ sailing .0 < 2 ^ 19 ⌝ }
-    ensures { λ r. ⌜ (r ≡ siltTo stretch (sailing .0)) × (r < 2 ^ 51) ⌝ }
+    ensures { λ r. ⌜ (r ≡ siltOver stretch (sailing .0)) × (r < 2 ^ 40) ⌝ }
 {
     let natural = stretch.natural;
     let dug = dug_to(sailing, natural);
-    (stretch.silting as u64 * stretch.interval as u64 * dug + 99999) / 100000
+    if dug == 0 {
+        return 0;
+    }
+    let filling = stretch.silting as u64 * stretch.interval as u64;
+    if 100000 <= filling {
+        return ENDLESS;
+    }
+    let left = 100000 - filling;
+    (filling * dug + (left - 1)) / left
 }
 
 // What the worksheet has in a column.
@@ -215,7 +227,7 @@ fn try_column(stretch: Stretch, column: Column) -> Try
     let natural = stretch.natural;
     let squat = squat_of(lanes, column, stretch.speed);
     let sailing = sailing_depth(stretch, squat);
-    let silt = silt_to(stretch, sailing);
+    let silt = silt_over(stretch, sailing);
     let reached = sailing.0 + silt;
     let figure = ReckonedDepth(reached);
     let falls_in = column_of(natural, figure);

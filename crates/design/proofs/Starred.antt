@@ -13,8 +13,8 @@ use Rattle.sheet.specs.declared.SheetRead.the-variants.{Good}
 use Rattle.lanes.specs.Lanes.{byTraffic, lanesOf}
 use Rattle.depth.specs.Interval.{intervalOf}
 use Rattle.depth.specs.Squat.{squatEntry}
-use Rattle.depth.specs.Depth.{z3, z4, columnOf, sailing, sailingWith, siltTo}
-use Rattle.depth.specs.Worksheet.{figure, columnTry, findingOf, movesOn, walk, tries, answerOf, workDepth}
+use Rattle.depth.specs.Depth.{z3, columnOf, sailing, sailingWith}
+use Rattle.depth.specs.Worksheet.{siltOver, silt, figure, columnTry, findingOf, movesOn, walk, tries, answerOf, workDepth}
 use Rattle.width.specs.Bands.{waterOf, speedBandOf, crossEntry, alongItem, waveEntry, entriesOf}
 use Rattle.width.specs.Additions.{laneItem, windItem, aidsItem, bedItem, depthItem, cargoItem, bankItem, banksItem, passingItem, trafficItem}
 use Rattle.width.specs.Width.{itemsOf, tenthsOf, widthOf}
@@ -30,5 +30,5 @@ starred-read = refl
 
 -- no case has its level off the record, so the table may be any
 pub starred : (table : List ℕ) → map (λ (s : Sheet). numbersOf (designOf (writing s) table)) starredSheets ≡ starredNumbers
-unfolding starts joined cut firstFrom fields fieldAt width least greatest pairBad badAt firstBad listed numberOf groupsOf bytesOf levelSourceOf sheetOf sheetFrom bedFigure figuresOf readGroups readOf squatEntry z3 z4 columnOf sailing sailingWith siltTo figure columnTry findingOf movesOn walk tries answerOf workDepth intervalOf naturalDepth datumDepth byTraffic lanesOf waterOf speedBandOf crossEntry alongItem waveEntry entriesOf laneItem windItem aidsItem bedItem depthItem cargoItem bankItem banksItem passingItem trafficItem itemsOf tenthsOf widthOf leastLengths wideningOf bendOf classBy designFigures pastEntries pastBend atLevel ofSheet designAt designOf numbersOf
+unfolding starts joined cut firstFrom fields fieldAt width least greatest pairBad badAt firstBad listed numberOf groupsOf bytesOf levelSourceOf sheetOf sheetFrom bedFigure figuresOf readGroups readOf squatEntry z3 columnOf sailing sailingWith siltOver silt figure columnTry findingOf movesOn walk tries answerOf workDepth intervalOf naturalDepth datumDepth byTraffic lanesOf waterOf speedBandOf crossEntry alongItem waveEntry entriesOf laneItem windItem aidsItem bedItem depthItem cargoItem bankItem banksItem passingItem trafficItem itemsOf tenthsOf widthOf leastLengths wideningOf bendOf classBy designFigures pastEntries pastBend atLevel ofSheet designAt designOf numbersOf
 starred table = refl

@@ -44,7 +44,7 @@ abbrev pub starredNumbers : List (List ℤ)
 starredNumbers =
     answer 1 1170 1170 14400 0 2 0 0 1
     ∷ answer 2 1210 1210 30600 0 2 0 0 1
-    ∷ answer 1 1170 1237 14400 0 2 0 0 1
+    ∷ answer 1 1170 1245 14400 0 2 0 0 1
     ∷ answer 1 1180 1180 14400 0 2 0 0 1
     ∷ answer 1 1156 1156 14400 0 1 0 0 1
     ∷ answer 1 1171 1171 14400 0 2 0 0 1

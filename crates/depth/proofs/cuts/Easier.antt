@@ -1,13 +1,18 @@
 -- Sailing depth and silt only grow with the stretch and with the column, so what serves a harder stretch serves an easier one.
-use mathlib.Core.Path.{_≡_}
-use Prim.Native.Nat.{ℕ, _+_, _-_, _*_, _≤_, _<_}
+use mathlib.Core.Path.{_≡_, refl}
+use mathlib.Core.Bool.{Bool, true, false}
+use Prim.Native.Nat.{ℕ, _+_, _-_, _*_, _≤_, _<_, zero-le}
 use native.Mathlib.Nat.{mul-le-mul}
 use native.Mathlib.Omega.{arith}
+use borrow.Author.Tests.{leb-true, leb-false}
+use lib.Dec.{leb}
+use Rattle.laws.specs.Choice.{if_then_else_}
+use Rattle.laws.specs.Rounding.{up}
 use Rattle.laws.proofs.Rounding.{up-mono}
 use Rattle.depth.specs.declared.Stretch.{Stretch}
 use Rattle.depth.specs.declared.Column.{Column}
 use Rattle.depth.specs.Squat.{none, columnNumber, squatReading}
-use Rattle.depth.specs.Depth.{z3, z4, sailing, sailingWith, siltTo, Serves}
+use Rattle.depth.specs.Depth.{z3, z4, naturalOf, filling, sailing, sailingWith, Serves}
 use Rattle.depth.specs.Harder.{Harder}
 use Rattle.depth.proofs.squat.Table.{entry-from, lanes-columns-speeds}
 
@@ -21,9 +26,16 @@ unfolding z3
 table-speed q c h = entry-from (columnNumber c) (squatReading (q .lanes)) (q .speed) h
 
 module _ (q q' : Stretch) (h : Harder q q') where
-  silt-rises : (s s' : ℕ) → s ≤ s' → siltTo q s ≤ siltTo q' s'
-  unfolding siltTo
-  silt-rises s s' hs = up-mono 100000 (omega arith) (mul-le-mul (mul-le-mul (h .silting) (h .interval)) (omega arith))
+  -- z4 only grows with the sailing depth and the cut
+  pub z4-rises : (c c' : Column) → sailing q c ≤ sailing q' c' → (d d' : ℕ) → d ≤ d' → z4 q c d ≤ z4 q' c' d'
+  unfolding z4
+  z4-rises c c' hs d d' hd = go (leb (sailing q c) (naturalOf q)) (leb (sailing q' c') (naturalOf q')) refl refl
+    where
+      go : (a b : Bool) → leb (sailing q c) (naturalOf q) ≡ a → leb (sailing q' c') (naturalOf q') ≡ b
+          → (if a then 0 else up (filling q * (d - naturalOf q)) 100000) ≤ (if b then 0 else up (filling q' * (d' - naturalOf q')) 100000)
+      go true b e f = zero-le
+      go false true e f = absurd (omega (arith, leb-true, leb-false, h .natural))
+      go false false e f = up-mono 100000 (omega arith) (mul-le-mul (mul-le-mul (h .silting) (h .interval)) (omega (arith, h .natural)))
 
   -- by k cm of draft and wave allowance
   sailing-rises : (k : ℕ) → q .draft + q .allowance + k ≤ q' .draft + q' .allowance → (z z' : ℕ) → z ≤ z'
@@ -40,11 +52,11 @@ module _ (q q' : Stretch) (h : Harder q q') where
 
     pub serves-easier : (k : ℕ) → q .draft + q .allowance + k ≤ q' .draft + q' .allowance → (c c' : Column)
         → columnNumber c ≤ columnNumber c' → (d : ℕ) → Serves q' c' d → Serves q c (d - k)
-    unfolding sailing z4
+    unfolding sailing
     serves-easier k hk c c' hc d v =
         let z : z3 q c ≤ z3 q' c' = squat-harder c c' hc in
         let s : sailing q c + k ≤ sailing q' c' = sailing-rises k hk (z3 q c) (z3 q' c') z in
-        let t : z4 q c ≤ z4 q' c' = silt-rises (sailing q c) (sailing q' c') (omega arith) in
+        let t : z4 q c (d - k) ≤ z4 q' c' d = z4-rises c c' (omega arith) (d - k) d (omega arith) in
         record { entry = omega (arith, v .entry); silt = omega (arith, v .silt); deep = omega (arith, v .deep) }
 
 -- what a column serves, an earlier column of the same stretch serves

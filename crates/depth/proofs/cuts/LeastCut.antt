@@ -3,7 +3,6 @@ use mathlib.Core.Path.{_≡_, refl, ap, subst}
 use mathlib.Core.Logic.{_↔_}
 use mathlib.Core.Bool.{false}
 use Prim.Native.Nat.{ℕ, _≤_, _<_}
-use native.Mathlib.Nat.{le-refl}
 use native.Mathlib.Omega.{arith}
 use lib.ListN.{length}
 use Rattle.laws.specs.Extremes.{Least}
@@ -17,12 +16,13 @@ use Rattle.depth.specs.declared.DepthFigures.{DepthFigures}
 use Rattle.depth.specs.declared.Depth.{Depth}
 use Rattle.depth.specs.declared.Depth.the-variants.{Cut, NoCut}
 use Rattle.depth.specs.Squat.{none, columnNumber, squatReading}
-use Rattle.depth.specs.Depth.{z3, z4, sailing, sailingWith, naturalOf, ownColumn, Serves, Meets, Figures, AsDefined, Ranges, depthNumber}
-use Rattle.depth.specs.Worksheet.{figure, columnTry, findingOf, isMove, movesOn, tries, lastTry, answerBy, answerOf, workDepth, Forward, Followed, Counted}
+use Rattle.depth.specs.Depth.{z3, sailing, sailingWith, naturalOf, ownColumn, Serves, Meets, Figures, AsDefined, Ranges, depthNumber}
+use Rattle.depth.specs.Worksheet.{silt, figure, columnTry, findingOf, isMove, movesOn, tries, lastTry, answerBy, answerOf, workDepth, Forward, Followed, Counted}
 use Rattle.depth.proofs.squat.Columns.{column-most, reading-most, column-up, same-column}
 use Rattle.depth.proofs.squat.Table.{squat-some}
 use Rattle.depth.proofs.walks.Findings.{Says, finding-says, not-within, fault-known}
 use Rattle.depth.proofs.cuts.Easier.{serves-earlier}
+use Rattle.depth.proofs.cuts.Settling.{silt-leaves, figure-is, silt-is, figure-under, silt-under}
 use Rattle.depth.proofs.walks.Tries.{tries-count}
 use Rattle.depth.proofs.walks.Following.{walk-followed}
 use Rattle.depth.proofs.walks.Ending.{Tells, Ends, Walked, walk-right}
@@ -33,20 +33,20 @@ module _ (q : Stretch) where
   EndsIt = Ends (ownColumn q) (Serves q) (Meets q) (columnTry q)
 
   -- a column's figure is the least cut it serves, where it serves any
-  figure-least : (c : Column) → z3 q c < none → z4 q c ≤ 120 → Least (Serves q c) (figure q c)
-  unfolding figure
-  figure-least c e s = record { holds = record { entry = e; silt = s; deep = le-refl _ }; least = λ d v. v .deep }
+  figure-least : (c : Column) → z3 q c < none → silt q c ≤ 120 → Least (Serves q c) (figure q c)
+  figure-least c e s =
+      let l = silt-leaves q c (omega arith) in
+      record {
+        holds = record { entry = e; silt = omega (arith, silt-is q c l); deep = figure-is q c l .holds };
+        least = λ d v. figure-is q c l .least d (v .deep);
+      }
 
   figure-some : (c : Column) → 1 ≤ figure q c
   unfolding figure sailing sailingWith z3
   figure-some c = omega (arith, squat-some (columnNumber c) (squatReading (q .lanes)) (column-most c) (reading-most (q .lanes)) (q .speed))
 
-  figure-under : (c : Column) (d : ℕ) → Serves q c d → figure q c ≤ d
-  unfolding figure
-  figure-under c d v = v .deep
-
   pub served-some : (c : Column) (d : ℕ) → Serves q c d → 1 ≤ d
-  served-some c d v = omega (arith, figure-some c, figure-under c d v)
+  served-some c d v = omega (arith, figure-some c, figure-under q c d (v .deep))
 
   line-tells : (c : Column) (f : Finding) → Says (columnTry q c) f → Tells (ownColumn q) (Serves q) (Meets q) (columnTry q) c (columnTry q c) f
   unfolding columnTry
@@ -59,7 +59,11 @@ module _ (q : Stretch) where
       )
   line-tells c Moves s = (figure-least c (s .0 .entry) (s .0 .silt), refl, s .1)
   line-tells c (Unusable fault) s = λ d v m.
-      not-within (columnTry q c) fault s (record { entry = v .entry; silt = v .silt; to = omega (arith, figure-under c d v, m .to) })
+      not-within (columnTry q c) fault s (record {
+        entry = v .entry;
+        silt = omega (arith, silt-under q c d (v .deep), v .silt);
+        to = omega (arith, figure-under q c d (v .deep), m .to);
+      })
 
   line-column : (c : Column) → columnTry q c .column ≡ c
   unfolding columnTry

@@ -1,10 +1,12 @@
 -- The reason of a depth that is not given: the worksheet comes to one column that it cannot leave, and that column fails by one test.
 use mathlib.Core.Path.{_≡_, refl, sym, ap, subst, _∙_}
-use mathlib.Core.Bool.{true, false, true≢false}
+use mathlib.Core.Bool.{Bool, true, false, true≢false}
 use mathlib.Core.List.{List, [], _∷_}
 use mathlib.Core.Logic.{_↔_, inl, inr, _≢_}
-use Prim.Native.Nat.{ℕ}
+use Prim.Native.Nat.{ℕ, _≤_, _<_}
 use native.Mathlib.Omega.{arith}
+use borrow.Author.Tests.{leb-true, leb-false}
+use lib.Dec.{leb}
 use lib.ListN.{length}
 use Rattle.laws.proofs.Extremes.{least-only}
 use Rattle.datum.specs.Datum.{below}
@@ -19,11 +21,12 @@ use Rattle.depth.specs.declared.Finding.the-variants.{Stays, Moves, Unus
 use Rattle.depth.specs.declared.Depth.{Depth}
 use Rattle.depth.specs.declared.Depth.the-variants.{Cut, NoCut}
 use Rattle.depth.specs.Squat.{none, columnNumber}
-use Rattle.depth.specs.Depth.{sailing, ownColumn, Meets, AsDefined, depthFaultNumber, depthNumber, NoDepthNumber}
-use Rattle.depth.specs.Worksheet.{figure, columnTry, findingOf, isMove, movesOn, tries, lastTry, answerBy, answerOf, workDepth, Followed, Counted}
+use Rattle.depth.specs.Depth.{z4, sailing, Deep, IsFigure, ownColumn, Meets, AsDefined, depthFaultNumber, depthNumber, NoDepthNumber}
+use Rattle.depth.specs.Worksheet.{silt, figure, columnTry, findingOf, isMove, movesOn, tries, lastTry, answerBy, answerOf, workDepth, Followed, Counted}
 use Rattle.depth.specs.Reasons.{Usable, Fails, Comes, there, by-way-of, FirstUnusable, Reasoned}
 use Rattle.depth.proofs.squat.Columns.{same-column}
 use Rattle.depth.proofs.walks.Findings.{no-entry, too-much-silt, too-deep, moves, Within, Past, Says, finding-says}
+use Rattle.depth.proofs.cuts.Settling.{silt-leaves, figure-is, line-figure}
 use Rattle.depth.proofs.cuts.LeastCut.{last-stops, tries-followed, work-as-defined, work-counted}
 
 -- a depth of these figures
@@ -32,17 +35,28 @@ cutOf cut sailing columns = Cut (record { cut = below cut; sailing = below saili
 
 module _ (q : Stretch) where
   -- a column as its line has it
+  within-figure : (c : Column) → silt q c ≤ 120 → IsFigure q c (figure q c)
+  within-figure c h = figure-is q c (silt-leaves q c (omega arith))
+
   past-fails : (c : Column) (fault : DepthFault) → Past (columnTry q c) fault → Fails q c fault
   unfolding columnTry
   past-fails c NoSquatEntry p = p
-  past-fails c SiltOver p = p
-  past-fails c CutOver p = p
+  past-fails c SiltOver p = (p .0, λ d f. omega (arith, p .1, line-figure q c d f .1))
+  past-fails c CutOver p =
+      let f = within-figure c (p .1) in
+      (p .0, (figure q c, f, omega (arith, p .1, line-figure q c (figure q c) f .1), p .2))
 
   fails-found : (c : Column) (fault : DepthFault) → Fails q c fault → Unusable fault ≡ findingOf (columnTry q c)
   unfolding columnTry
   fails-found c NoSquatEntry p = no-entry _ p
-  fails-found c SiltOver p = too-much-silt _ (p .0) (p .1)
-  fails-found c CutOver p = too-deep _ (p .0) (p .1) (p .2)
+  fails-found c SiltOver p = too-much-silt _ (p .0) (over (leb (silt q c) 120) refl)
+    where
+      over : (b : Bool) → leb (silt q c) 120 ≡ b → 120 < silt q c
+      over true e = let f = within-figure c (leb-true _ _ e) in absurd (omega (arith, leb-true, p .1 (figure q c) f, line-figure q c (figure q c) f .1))
+      over false e = leb-false _ _ e
+  fails-found c CutOver p =
+      let f = line-figure q c (p .1 .0) (p .1 .1) in
+      too-deep _ (p .0) (omega (arith, p .1 .2, f .1)) (omega (arith, p .1 .3, f .0))
 
   -- a column that moves on can be used, and its figure falls in another
   moving : (t : Try) → movesOn t ≡ true → Within t × (columnNumber (t .«falls_in») ≡ columnNumber (t .column) → ⊥)
@@ -54,15 +68,23 @@ module _ (q : Stretch) where
       go Moves s e = s
       go (Unusable fault) s e = absurd (true≢false (sym e))
 
-  moves-usable : (c : Column) → movesOn (columnTry q c) ≡ true → Usable q c × (ownColumn q (figure q c) ≢ c)
+  moves-usable : (c : Column) → movesOn (columnTry q c) ≡ true → Usable q c (figure q c) × (ownColumn q (figure q c) ≢ c)
   unfolding columnTry
   moves-usable c e =
       let m = moving (columnTry q c) e in
-      (record { entry = m .0 .entry; silt = m .0 .silt; to = m .0 .to }, λ same. m .1 (ap columnNumber same))
+      let f = within-figure c (m .0 .silt) in (
+        record { entry = m .0 .entry; figure = f; silt = omega (arith, m .0 .silt, line-figure q c (figure q c) f .1); to = m .0 .to },
+        λ same. m .1 (ap columnNumber same),
+      )
 
-  usable-moves : (c : Column) → Usable q c → ownColumn q (figure q c) ≢ c → movesOn (columnTry q c) ≡ true
+  usable-moves : (c : Column) (d : ℕ) → Usable q c d → ownColumn q d ≢ c → movesOn (columnTry q c) ≡ true
   unfolding columnTry movesOn
-  usable-moves c u other = ap isMove (sym (moves (columnTry q c) (u .entry) (u .silt) (u .to) (λ same. other (same-column _ _ same))))
+  usable-moves c d u other =
+      let f = line-figure q c d (u .figure) in
+      ap isMove
+      (sym
+      (moves (columnTry q c) (u .entry) (omega (arith, u .silt, f .1)) (omega (arith, u .to, f .0))
+      (λ same. other (ap (ownColumn q) (sym (f .0)) ∙ same-column _ _ same))))
 
   -- tries that are followed come to the column of the last
   record Last (c : Column) (t : Try) : Type 0 where
@@ -84,16 +106,16 @@ module _ (q : Stretch) where
           let m = moves-usable c (sym (ap movesOn (f .0)) ∙ f .1) in
           record {
             column = r .column;
-            comes = by-way-of c (r .column) (m .0) (m .1) (subst (λ (b : Column). Comes q b (r .column)) (falls c t (f .0)) (r .comes));
+            comes = by-way-of c (r .column) (figure q c) (m .0) (m .1) (subst (λ (b : Column). Comes q b (r .column)) (falls c t (f .0)) (r .comes));
             line = r .line;
           }
 
   -- a column that it cannot leave
   abbrev Stops : Column → Type 0
-  Stops c = Usable q c → ownColumn q (figure q c) ≢ c → ⊥
+  Stops c = (d : ℕ) → Usable q c d → ownColumn q d ≢ c → ⊥
 
   still-stops : (c : Column) → movesOn (columnTry q c) ≡ false → Stops c
-  still-stops c e u other = true≢false (sym (usable-moves c u other) ∙ e)
+  still-stops c e d u other = true≢false (sym (usable-moves c d u other) ∙ e)
 
   fails-stops : (c : Column) (fault : DepthFault) → Fails q c fault → Stops c
   unfolding movesOn
@@ -102,9 +124,11 @@ module _ (q : Stretch) where
   -- it comes to one such column
   one-end : (c a b : Column) → Comes q c a → Comes q c b → Stops a → Stops b → a ≡ b
   one-end c a b (there _) (there _) sa sb = refl
-  one-end c a b (there _) (by-way-of _ _ u n r) sa sb = absurd (sa u n)
-  one-end c a b (by-way-of _ _ u n r) (there _) sa sb = absurd (sb u n)
-  one-end c a b (by-way-of _ _ u n r) (by-way-of _ _ u' n' r') sa sb = one-end (ownColumn q (figure q c)) a b r r' sa sb
+  one-end c a b (there _) (by-way-of _ _ d u n r) sa sb = absurd (sa d u n)
+  one-end c a b (by-way-of _ _ d u n r) (there _) sa sb = absurd (sb d u n)
+  one-end c a b (by-way-of _ _ d u n r) (by-way-of _ _ e u' n' r') sa sb =
+      let same = least-only (Deep q c) e d (u' .figure) (u .figure) in
+      one-end (ownColumn q d) a b r (subst (λ (x : ℕ). Comes q (ownColumn q x) b) same r') sa sb
 
   the-last : Last A (lastTry (tries q))
   the-last = comes-to A (tries q) (tries-followed q)

@@ -8,7 +8,7 @@ returns : tie.Need-returns
 returns c =
     let a = c .before .before .before .before .before .before .args in
     line-is (a .stretch) (a .column) _ _ _ _ (c .before .before .before .before .squat-of .ensures)
-    (c .before .before .before .sailing-depth .ensures .0) (c .before .before .silt-to .ensures .0) (c .column-of .ensures)
+    (c .before .before .before .sailing-depth .ensures .0) (c .before .before .silt-over .ensures .0) (c .column-of .ensures)
 
 pub try-column-spec : {M : Type 1} → statement M
 try-column-spec =

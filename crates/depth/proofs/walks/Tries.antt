@@ -12,8 +12,8 @@ use Rattle.depth.specs.declared.Column.the-variants.{A}
 use Rattle.depth.specs.declared.ReckonedDepth.{ReckonedDepth}
 use Rattle.depth.specs.declared.Try.{Try}
 use Rattle.depth.specs.Squat.{columnNumber, squatOf}
-use Rattle.depth.specs.Depth.{z3, z4, sailing, sailingWith, siltTo, columnOf, naturalOf}
-use Rattle.depth.specs.Worksheet.{reckoned, columnTry, movesOn, walk, tries, lastTry, Forward, figure}
+use Rattle.depth.specs.Depth.{z3, sailing, sailingWith, columnOf, naturalOf}
+use Rattle.depth.specs.Worksheet.{reckoned, columnTry, movesOn, walk, tries, lastTry, Forward, siltOver, silt, figure}
 
 -- one line of the walk
 module _ (line : Column → Try) (c : Column) where
@@ -79,8 +79,8 @@ module _ (q : Stretch) where
   last-sails = last-has (λ t. t .sailing .0 ≤ t .figure .0) (columnTry q) sails 2 A
 
 -- a line as the code has it
-pub line-is : (q : Stretch) (c : Column) (squat : ℕ) (s : ReckonedDepth) (silt : ℕ) (falls : Column) → squat ≡ squatOf (q .lanes) c (q .speed)
-    → s ≡ reckoned (sailingWith q squat) → silt ≡ siltTo q (s .0) → falls ≡ columnOf (naturalOf q) (s .0 + silt)
-    → record { column = c; squat = squat; sailing = s; silt = silt; figure = reckoned (s .0 + silt); «falls_in» = falls } ≡ columnTry q c
-unfolding columnTry figure z3 z4 sailing
-line-is q c squat s silt falls a b d e = rw (e, d, b, a) refl
+pub line-is : (q : Stretch) (c : Column) (squat : ℕ) (s : ReckonedDepth) (z : ℕ) (falls : Column) → squat ≡ squatOf (q .lanes) c (q .speed)
+    → s ≡ reckoned (sailingWith q squat) → z ≡ siltOver q (s .0) → falls ≡ columnOf (naturalOf q) (s .0 + z)
+    → record { column = c; squat = squat; sailing = s; silt = z; figure = reckoned (s .0 + z); «falls_in» = falls } ≡ columnTry q c
+unfolding columnTry figure silt z3 sailing
+line-is q c squat s z falls a b d e = rw (e, d, b, a) refl
