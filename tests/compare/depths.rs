@@ -10,6 +10,9 @@ use crate::second::width;
 /// The mark of no entry in the worksheet's data.
 const NONE: i64 = 9_999;
 
+/// The mark of a column in which every cut silts up whole, in the 32 bits that a handle gives.
+const ENDLESS: i64 = 999_999_999_999 % (1 << 32);
+
 /// The lines of a worksheet.
 const LINES: usize = 3;
 
@@ -64,11 +67,25 @@ fn no_entry(column: i64) -> Line {
     [column, NONE, 0, 0, 0, 0]
 }
 
+/// A column without a figure, likewise.
+fn no_figure(column: i64, z3: i64, s: i64) -> Line {
+    [column, z3, s, ENDLESS, 0, 0]
+}
+
 /// The second program has no try for a column without an entry: it is the one that the try before fell in.
 fn tries_by_second(inputs: &Inputs) -> (usize, Vec<Line>) {
     let shown = |tried: &depth::Try| {
-        let (column, falls_in) = (column_number(tried.column), column_number(tried.falls_in));
-        [column, tried.z3, tried.s, tried.z4, tried.figure, falls_in]
+        let (column, z3, s) = (column_number(tried.column), tried.z3, tried.s);
+        tried.figure.map_or(no_figure(column, z3, s), |figure| {
+            [
+                column,
+                z3,
+                s,
+                figure.z4,
+                figure.cut,
+                column_number(figure.falls_in),
+            ]
+        })
     };
     let worksheet = depth::worksheet(inputs);
     let mut lines: Vec<Line> = worksheet.tries.iter().map(shown).collect();
@@ -86,18 +103,20 @@ fn tries_by_proved(handles: &mut Handles, inputs: &Inputs) -> (usize, Vec<Line>)
     let mut place = [0xee; 24 * LINES];
     let count = handles.call(Handle::Worksheet, &figures(inputs), &mut place) as usize;
     let found: Vec<i64> = numbers_of(&place).into_iter().map(i64::from).collect();
-    let line = |six: &[i64]| match six[1] {
-        NONE => no_entry(six[0]),
+    let line = |six: &[i64]| match six[..] {
+        [column, NONE, ..] => no_entry(column),
+        [column, z3, s, ENDLESS, ..] => no_figure(column, z3, s),
         _ => std::array::from_fn(|k| six[k]),
     };
     (count, found.chunks_exact(6).map(line).collect())
 }
 
-/// The serving program, the count, and how often each column was tried that has no entry.
+/// The serving program, the count, and how often each column was tried that has no entry, and one that has no figure.
 struct Depths {
     handles: Handles,
     report: Report,
     no_entry: [u64; 3],
+    no_figure: u64,
 }
 
 impl Depths {
@@ -109,6 +128,7 @@ impl Depths {
         for line in lines.iter().filter(|line| line[1] == NONE) {
             self.no_entry[line[0] as usize] += 1;
         }
+        self.no_figure += lines.iter().filter(|line| line[3] == ENDLESS).count() as u64;
         let proved = tries_by_proved(&mut self.handles, inputs);
         report.case(proved, (count, lines), || {
             format!("worksheet of {inputs:?}")
@@ -142,6 +162,7 @@ pub fn depths() {
         handles: Handles::start(),
         report: Report::new("depths", 600_000),
         no_entry: [0; 3],
+        no_figure: 0,
     };
     let mut rng = Random::new(5);
     // every speed, lanes, soil and interval
@@ -172,6 +193,11 @@ pub fn depths() {
     assert!(
         in_a == 0 && in_b > 1_000 && in_c > 1_000,
         "columns without an entry are tried: {in_a} {in_b} {in_c}"
+    );
+    assert!(
+        depths.no_figure > 1_000,
+        "columns without a figure are tried: {}",
+        depths.no_figure
     );
     depths.report.end();
 }

@@ -174,7 +174,7 @@ type Figures = (&'static [(usize, i64)], &'static [(usize, i64)]);
 
 const FIGURES: &[Figures] = &[
     (&[(11, 2)], &[(CODE, 0), (CUT, 1_210), (WIDTH, 30_600)]),
-    (&[(9, 100)], &[(CODE, 0), (SAILING, 1_170), (CUT, 1_237)]),
+    (&[(9, 100)], &[(CODE, 0), (SAILING, 1_170), (CUT, 1_245)]),
     (&[(6, 0)], &[(CODE, 0), (CUT, 1_180)]),
     (
         &[(8, 31), (6, 578)],

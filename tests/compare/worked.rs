@@ -187,7 +187,7 @@ fn depth_figures(sheet: &Sheet, answer: &Answer) -> [(&'static str, i64); 6] {
         ("z1", z1(&inputs)),
         ("z2", inputs.z2),
         ("z3", squat),
-        ("z4", z4(&inputs, answer.s)),
+        ("z4", z4(&inputs, answer.s, answer.cut)),
     ]
 }
 

@@ -110,21 +110,25 @@ pub fn sailing_depth(inputs: &Inputs, column: Column) -> Option<i64> {
     Some(inputs.draft + z0(inputs) + z1(inputs) + inputs.z2 + squat)
 }
 
-/// "Silt z4 = P × interval × (s - N) / 100,000 rounded up, 0 when s ≤ N."
-pub fn z4(inputs: &Inputs, s: i64) -> i64 {
+/// "z4 is P × interval × (cut - N, or 0 if negative) / 100,000 rounded up, 0 when s ≤ N."
+pub fn z4(inputs: &Inputs, s: i64, cut: i64) -> i64 {
     let n = natural_depth(inputs);
     if s <= n {
         return 0;
     }
-    let interval = INTERVAL[inputs.interval as usize];
-    rounded_up(inputs.silting * interval * (s - n), 100_000)
+    rounded_up(product(inputs) * (cut - n).max(0), 100_000)
 }
 
-/// "An entry at its column, z4 at most 120, and d at least s + z4."
+/// P × interval.
+pub fn product(inputs: &Inputs) -> i64 {
+    inputs.silting * INTERVAL[inputs.interval as usize]
+}
+
+/// "An entry at its column, z4 at most 120, and d at least s + z4", the z4 of d.
 pub fn meets(inputs: &Inputs, d: i64) -> bool {
     match sailing_depth(inputs, column_of(inputs, d)) {
         None => false,
-        Some(s) => z4(inputs, s) <= 120 && d >= s + z4(inputs, s),
+        Some(s) => z4(inputs, s, d) <= 120 && d >= s + z4(inputs, s, d),
     }
 }
 
@@ -133,15 +137,30 @@ pub fn cut(inputs: &Inputs) -> Option<i64> {
     (1..=3_000).find(|&d| meets(inputs, d))
 }
 
+/// "Each column's figure is now the least cut for that column's s": each is tried, from s on, as
+/// none less is enough. "A product P × interval of 100,000 or more" leaves none "whenever s exceeds N".
+fn figure(inputs: &Inputs, s: i64) -> Option<i64> {
+    if product(inputs) >= 100_000 && s > natural_depth(inputs) {
+        return None;
+    }
+    (s..).find(|&d| d >= s + z4(inputs, s, d))
+}
+
+/// A column's figure, its silt and the column that it falls in.
+#[derive(Clone, Copy, Debug, PartialEq, Eq)]
+pub struct Figure {
+    pub cut: i64,
+    pub z4: i64,
+    pub falls_in: Column,
+}
+
 /// One column tried on the worksheet.
 #[derive(Clone, Copy, Debug, PartialEq, Eq)]
 pub struct Try {
     pub column: Column,
     pub z3: i64,
     pub s: i64,
-    pub z4: i64,
-    pub figure: i64,
-    pub falls_in: Column,
+    pub figure: Option<Figure>,
 }
 
 /// The tries in order, and what the worksheet ends in: the cut, or the number that says why there is none.
@@ -161,25 +180,35 @@ impl Worksheet {
 /// A column without an entry has no figures.
 fn try_column(inputs: &Inputs, column: Column) -> Option<Try> {
     let s = sailing_depth(inputs, column)?;
-    let silt = z4(inputs, s);
+    let found = figure(inputs, s).map(|cut| Figure {
+        cut,
+        z4: z4(inputs, s, cut),
+        falls_in: column_of(inputs, cut),
+    });
     Some(Try {
         column,
         z3: z3(inputs, column)?,
         s,
-        z4: silt,
-        figure: s + silt,
-        falls_in: column_of(inputs, s + silt),
+        figure: found,
     })
 }
 
-/// What the worksheet comes to in a column: a cut, a number, or nothing yet.
-fn ends(tried: Option<Try>) -> Option<Result<i64, u32>> {
-    match tried {
-        None => Some(Err(13)),
-        Some(tried) if tried.z4 > 120 => Some(Err(14)),
-        Some(tried) if tried.figure > 3_000 => Some(Err(15)),
-        Some(tried) if tried.falls_in == tried.column => Some(Ok(tried.figure)),
-        Some(_) => None,
+/// What the worksheet comes to in a column: it ends in a cut or a number, or moves to another column.
+enum Found {
+    Ends(Result<i64, u32>),
+    Moves(Column),
+}
+
+fn found(tried: Option<Try>) -> Found {
+    let Some(tried) = tried else {
+        return Found::Ends(Err(13));
+    };
+    match tried.figure {
+        None => Found::Ends(Err(14)),
+        Some(figure) if figure.z4 > 120 => Found::Ends(Err(14)),
+        Some(figure) if figure.cut > 3_000 => Found::Ends(Err(15)),
+        Some(figure) if figure.falls_in == tried.column => Found::Ends(Ok(figure.cut)),
+        Some(figure) => Found::Moves(figure.falls_in),
     }
 }
 
@@ -192,10 +221,10 @@ pub fn worksheet(inputs: &Inputs) -> Worksheet {
     loop {
         let tried = try_column(inputs, column);
         tries.extend(tried);
-        if let Some(cut) = ends(tried) {
-            return Worksheet { tries, cut };
+        match found(tried) {
+            Found::Ends(cut) => return Worksheet { tries, cut },
+            Found::Moves(next) => column = next,
         }
-        column = tried.map_or(column, |tried| tried.falls_in);
     }
 }
 

@@ -151,7 +151,7 @@ fn starred(program: &impl Program, tally: &mut Tally) {
     tally.check("S, two lanes: width", two.width, 30_600);
     let silted = answer(program, &[(9, 100)]);
     tally.check("S, P 100: s", silted.s, 1_170);
-    tally.check("S, P 100: cut", silted.cut, 1_237);
+    tally.check("S, P 100: cut", silted.cut, 1_245);
     tally.check("S, bed 0: cut", answer(program, &[(6, 0)]).cut, 1_180);
     let one_column = answer(program, &[(8, 31), (6, 578)]);
     tally.check("S, z2 31, bed 578: cut", one_column.cut, 1_156);
@@ -307,8 +307,18 @@ fn bad_designs(program: &impl Program, tally: &mut Tally) {
     tally.check("8: neither", code(&[(14, 1), (17, 15), (19, 100)]), 0);
     tally.check("13: no entry", code(&[(5, 12), (6, 600)]), 13);
     let silt = |p| answer(program, &[(9, p), (10, 5), (6, 670)]);
-    let silted = (silt(82).cut, silt(82).code, silt(83).code);
+    let silted = (silt(66).cut, silt(66).code, silt(67).code);
     tally.check("14: z4 over 120", silted, (1_275, 0, 14));
+    // every cut silts up whole, but where nothing is dug
+    let whole = |p, code, bed| answer(program, &[(9, p), (10, code), (6, bed)]);
+    let filled = (whole(500, 4, 1_154).code, whole(900, 5, 1_154).code);
+    tally.check("14: a product of 100,000 or more", filled, (14, 14));
+    let not_dug = (whole(500, 4, 1_155).cut, whole(900, 5, 1_155).cut);
+    tally.check(
+        "a product of 100,000 or more, s = N",
+        not_dug,
+        (1_155, 1_155),
+    );
     let deep = |z2| answer(program, &[(2, 2_500), (6, 3_000), (7, 3), (8, z2), (5, 9)]);
     let deepest = (deep(230).cut, deep(231).code);
     tally.check("15: over 3,000", deepest, (3_000, 15));

@@ -2,7 +2,7 @@
 
 use super::depth::{self, Column, Inputs};
 use super::sheet::{self, Sheet, BYTES, FIELDS, TABLE};
-use super::{gauge, width};
+use super::{gauge, rounded_up, width};
 
 /// splitmix64.
 pub struct Random {
@@ -150,6 +150,13 @@ fn near_lanes(rng: &mut Random, figures: &mut [i64; FIELDS]) {
     }
 }
 
+/// The silt of a column's figure in one step, so as to come near a limit: it answers nothing.
+fn silt_about(inputs: &Inputs, s: i64) -> i64 {
+    let dug = (s - depth::natural_depth(inputs)).max(0);
+    let product = depth::product(inputs);
+    rounded_up(product * dug, (100_000 - product).max(1))
+}
+
 /// The least natural depth at which a column's figure falls in it, or in a lesser column.
 fn natural_limit(inputs: &Inputs, column: Column, share: i64) -> i64 {
     let falls = |natural: &i64| {
@@ -159,7 +166,7 @@ fn natural_limit(inputs: &Inputs, column: Column, share: i64) -> i64 {
             ..*inputs
         };
         match depth::sailing_depth(&shifted, column) {
-            Some(s) => s + depth::z4(&shifted, s) <= share * natural,
+            Some(s) => s + silt_about(&shifted, s) <= share * natural,
             None => true,
         }
     };
@@ -183,7 +190,7 @@ fn near_silt(rng: &mut Random, figures: &mut [i64; FIELDS]) {
     let mut inputs = inputs(figures);
     let s = some_s(rng, &inputs);
     inputs.silting = 0;
-    while inputs.silting < 900 && depth::z4(&inputs, s) <= 120 {
+    while inputs.silting < 900 && silt_about(&inputs, s) <= 120 {
         inputs.silting += 1;
     }
     figures[8] = within(9, inputs.silting + rng.between(-2, 1));
@@ -199,7 +206,7 @@ fn near_s(rng: &mut Random, figures: &mut [i64; FIELDS]) {
     let draft = inputs.draft;
     let ratios = [3 * draft / 2, 5 * draft / 4, 23 * draft / 20];
     let class = rng.pick(&[800, 900, 1_100, 1_400]);
-    let deepest = 3_000 - depth::z4(&inputs, s);
+    let deepest = 3_000 - silt_about(&inputs, s);
     let wanted = match rng.below(5) {
         0 => class,
         1 => deepest,

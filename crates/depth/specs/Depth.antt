@@ -58,9 +58,13 @@ sailing q c = sailingWith q (z3 q c)
 abbrev pub filling : Stretch → ℕ
 filling q = q .silting * q .interval
 
--- z4: the silt that falls into the whole of a cut d, P × interval × (d - N, or 0 if negative) / 100,000, rounded up; 0 when s ≤ N
+-- the silt of what is dug of a depth d: P × interval × (d - N, or 0 if negative) / 100,000, rounded up
+unfoldable pub siltTo : Stretch → ℕ → ℕ
+siltTo q d = up (filling q * dug (naturalOf q) d) 100000
+
+-- z4: the silt of a column, of the whole cut d; 0 when s ≤ N
 unfoldable pub z4 : Stretch → Column → ℕ → ℕ
-z4 q c d = if sailing q c ≤ᵇ naturalOf q then 0 else up (filling q * dug (naturalOf q) d) 100000
+z4 q c d = if sailing q c ≤ᵇ naturalOf q then 0 else siltTo q d
 
 -- a cut d is deep enough in a column: at least s + z4
 abbrev pub Deep : Stretch → Column → ℕ → Type 0

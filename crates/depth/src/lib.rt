@@ -208,10 +208,12 @@ fn silt_over(stretch: Stretch, sailing: ReckonedDepth) -> u64
 {
     let natural = stretch.natural;
     let dug = dug_to(sailing, natural);
+    let silting = stretch.silting as u64;
+    let interval = stretch.interval as u64;
+    let filling = silting * interval;
     if dug == 0 {
         return 0;
     }
-    let filling = stretch.silting as u64 * stretch.interval as u64;
     if 100000 <= filling {
         return ENDLESS;
     }

@@ -7,12 +7,11 @@ use native.Mathlib.Omega.{arith}
 use borrow.Author.Tests.{leb-true, leb-false}
 use lib.Dec.{leb}
 use Rattle.laws.specs.Choice.{if_then_else_}
-use Rattle.laws.specs.Rounding.{up}
 use Rattle.laws.proofs.Rounding.{up-mono}
 use Rattle.depth.specs.declared.Stretch.{Stretch}
 use Rattle.depth.specs.declared.Column.{Column}
 use Rattle.depth.specs.Squat.{none, columnNumber, squatReading}
-use Rattle.depth.specs.Depth.{z3, z4, naturalOf, filling, sailing, sailingWith, Serves}
+use Rattle.depth.specs.Depth.{z3, siltTo, z4, naturalOf, sailing, sailingWith, Serves}
 use Rattle.depth.specs.Harder.{Harder}
 use Rattle.depth.proofs.squat.Table.{entry-from, lanes-columns-speeds}
 
@@ -26,16 +25,20 @@ unfolding z3
 table-speed q c h = entry-from (columnNumber c) (squatReading (q .lanes)) (q .speed) h
 
 module _ (q q' : Stretch) (h : Harder q q') where
-  -- z4 only grows with the sailing depth and the cut
+  silt-rises : (d d' : ℕ) → d ≤ d' → siltTo q d ≤ siltTo q' d'
+  unfolding siltTo
+  silt-rises d d' hd = up-mono 100000 (omega arith) (mul-le-mul (mul-le-mul (h .silting) (h .interval)) (omega (arith, h .natural)))
+
+  -- so does z4, with the sailing depth and the cut
   pub z4-rises : (c c' : Column) → sailing q c ≤ sailing q' c' → (d d' : ℕ) → d ≤ d' → z4 q c d ≤ z4 q' c' d'
   unfolding z4
   z4-rises c c' hs d d' hd = go (leb (sailing q c) (naturalOf q)) (leb (sailing q' c') (naturalOf q')) refl refl
     where
       go : (a b : Bool) → leb (sailing q c) (naturalOf q) ≡ a → leb (sailing q' c') (naturalOf q') ≡ b
-          → (if a then 0 else up (filling q * (d - naturalOf q)) 100000) ≤ (if b then 0 else up (filling q' * (d' - naturalOf q')) 100000)
+          → (if a then 0 else siltTo q d) ≤ (if b then 0 else siltTo q' d')
       go true b e f = zero-le
       go false true e f = absurd (omega (arith, leb-true, leb-false, h .natural))
-      go false false e f = up-mono 100000 (omega arith) (mul-le-mul (mul-le-mul (h .silting) (h .interval)) (omega (arith, h .natural)))
+      go false false e f = silt-rises d d' hd
 
   -- by k cm of draft and wave allowance
   sailing-rises : (k : ℕ) → q .draft + q .allowance + k ≤ q' .draft + q' .allowance → (z z' : ℕ) → z ≤ z'

@@ -13,7 +13,7 @@ use Rattle.laws.proofs.Rounding.{up-le, up-reaches}
 use Rattle.laws.proofs.Extremes.{least-only}
 use Rattle.depth.specs.declared.Stretch.{Stretch}
 use Rattle.depth.specs.declared.Column.{Column}
-use Rattle.depth.specs.Depth.{naturalOf, filling, sailing, z4, Deep, IsFigure}
+use Rattle.depth.specs.Depth.{naturalOf, filling, sailing, siltTo, z4, Deep, IsFigure}
 use Rattle.depth.specs.Worksheet.{endless, siltOver, silt, figure}
 use Rattle.depth.proofs.cuts.Easier.{as-hard, z4-rises}
 
@@ -44,8 +44,8 @@ module _ (q : Stretch) (c : Column) where
   z4-none h d = simp (le-leb _ _ h)
 
   z4-some : naturalOf q < sailing q c → (d : ℕ) → z4 q c d ≡ up (filling q * (d - naturalOf q)) 100000
-  unfolding z4
-  z4-some h d = simp (lt-leb _ _ h)
+  unfolding z4 siltTo
+  z4-some h d = rw (lt-leb (sailing q c) (naturalOf q) h) refl
 
   -- something of a cut is left, whatever its silt takes
   abbrev pub Leaves : Type 0

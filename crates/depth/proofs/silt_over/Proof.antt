@@ -1,4 +1,4 @@
--- `depth::silt_over` meets its contract: a way out for nothing dug, for a cut that silts up whole and for one that holds its silt, whose product fits 36 bits.
+-- `depth::silt_over` meets its contract: a way out for nothing dug, for a cut that silts up whole, and for one that holds its silt, whose product fits 36 bits.
 use Prim.Native.Nat.{_+_, _-_, _*_, _^_, _<_}
 use native.Mathlib.Nat.{div-le-self}
 use native.Mathlib.Omega.{arith}
@@ -10,13 +10,15 @@ use borrow.Author.Needs.{needs}
 use Rattle.depth.proofs.silt_over.Statement.{statement}
 use Rattle.depth.proofs.silt_over.Tie as tie
 
-returns : tie.Need-returns
-returns c = let a = c .before .before .before .args in (not-dug (a .stretch) (a .sailing .0) (omega arith), omega arith)
-
 mul-filling : tie.Need-mul-filling
 mul-filling c =
-    let a = c .before .before .before .before .before .args .stretch in
+    let a = c .before .before .before .before .args .stretch in
     omega (arith, product-lt 16 16 {a = a .silting} {b = a .interval} (search needs) (search needs))
+
+returns : tie.Need-returns
+returns c =
+    let a = c .before .before .before .before .before .args in
+    (not-dug (a .stretch) (a .sailing .0) (omega arith), omega arith)
 
 returns-2 : tie.Need-returns-2
 returns-2 c =
@@ -45,10 +47,10 @@ silt-over-spec =
     tie.close
     (tie.spec
     (λ c κs. search needs)
-    returns
     (λ c. search needs)
     (λ c. search needs)
     mul-filling
+    returns
     returns-2
     (λ c. search needs)
     mul-result
