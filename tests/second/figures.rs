@@ -152,6 +152,19 @@ fn starred(program: &impl Program, tally: &mut Tally) {
     let silted = answer(program, &[(9, 100)]);
     tally.check("S, P 100: s", silted.s, 1_170);
     tally.check("S, P 100: cut", silted.cut, 1_245);
+    let cuts: Vec<_> = (0..6)
+        .map(|interval| answer(program, &[(9, 100), (10, interval)]))
+        .map(|silted| (silted.code, silted.cut))
+        .collect();
+    let by_interval = [
+        (0, 1_188),
+        (0, 1_193),
+        (0, 1_206),
+        (0, 1_245),
+        (14, 0),
+        (14, 0),
+    ];
+    tally.check("S, P 100, each interval", cuts, by_interval.to_vec());
     tally.check("S, bed 0: cut", answer(program, &[(6, 0)]).cut, 1_180);
     let one_column = answer(program, &[(8, 31), (6, 578)]);
     tally.check("S, z2 31, bed 578: cut", one_column.cut, 1_156);

@@ -25,7 +25,7 @@ use Rattle.depth.specs.Depth.{z3, naturalOf, dug, filling, sailing, ownC
 abbrev pub reckoned : ℕ → ReckonedDepth
 reckoned cm = record { 0 = cm }
 
--- no silt of a cut: in this column every cut silts up whole, so none is its figure; greater than every silt
+-- the mark of a column in which every cut silts up whole, so that it has no figure: greater than every silt
 abbrev pub endless : ℕ
 endless = 999999999999
 

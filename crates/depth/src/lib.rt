@@ -34,9 +34,9 @@ pub enum Column {
 // A depth below the design level as the worksheet reckons it, in cm: wide, since its limit is tested afterwards.
 pub struct ReckonedDepth(pub u64);
 
-// A line of the worksheet: a column, its squat z3 (NONE for no entry, and then the rest means nothing), sailing depth s,
-// figure, which is the least cut that is at least s and its own silt, that silt z4 (ENDLESS where no cut is, and then the
-// rest means nothing), in cm, and the column that the figure falls in.
+// A line of the worksheet, in cm: a column, its squat z3 (NONE for no entry, and then the rest means nothing), sailing depth s,
+// silt z4 (ENDLESS for no figure, and then the rest means nothing), figure s + z4, which is the least cut that holds its own
+// silt, and the column that the figure falls in.
 pub struct Try {
     pub column: Column,
     pub squat: u16,
@@ -82,7 +82,7 @@ pub enum Depth {
 // The mark of no entry in the squat table: greater than every entry.
 pub const NONE: u16 = 9999;
 
-// The mark of a column in which every cut silts up whole, so that none is its figure: greater than every silt.
+// The mark of a column in which every cut silts up whole, so that it has no figure: greater than every silt.
 pub const ENDLESS: u64 = 999999999999;
 
 // The squat in cm, at the speeds 2 to 12: columns A, B and C, each lone and then passing.
@@ -201,7 +201,7 @@ fn sailing_depth(stretch: Stretch, squat: u16) -> ReckonedDepth
     ReckonedDepth(draft as u64 + list + keel + stretch.allowance as u64 + squat as u64)
 }
 
-// The silt that falls into the least cut that is at least a sailing depth and this silt: that cut is computed and not searched.
+// The silt that falls into the least cut that holds it above a sailing depth: computed, and no cut is searched for.
 fn silt_over(stretch: Stretch, sailing: ReckonedDepth) -> u64
     requires { ⌜ sailing .0 < 2 ^ 19 ⌝ }
     ensures { λ r. ⌜ (r ≡ siltOver stretch (sailing .0)) × (r < 2 ^ 40) ⌝ }
