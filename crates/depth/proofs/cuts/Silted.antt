@@ -13,12 +13,12 @@ use Rattle.depth.specs.declared.Stretch.{Stretch}
 use Rattle.depth.specs.declared.Column.{Column}
 use Rattle.depth.specs.declared.Column.the-variants.{A}
 use Rattle.depth.specs.declared.DepthFault.the-variants.{SiltOver}
-use Rattle.depth.specs.Squat.{none, columnNumber}
-use Rattle.depth.specs.Depth.{z3, naturalOf, filling, sailing, z4, ownColumn, Serves, Meets, depthNumber}
+use Rattle.depth.specs.Squat.{none}
+use Rattle.depth.specs.Depth.{z3, naturalOf, filling, sailing, ownColumn, Serves, Meets, depthNumber}
 use Rattle.depth.specs.Worksheet.{endless, silt, figure, workDepth}
-use Rattle.depth.specs.Reasons.{there, FirstUnusable}
+use Rattle.depth.specs.Reasons.{there}
 use Rattle.depth.proofs.Sizes.{filling-product}
-use Rattle.depth.proofs.squat.Columns.{column-a, column-most}
+use Rattle.depth.proofs.squat.Columns.{column-a}
 use Rattle.depth.proofs.cuts.Easier.{serves-earlier}
 use Rattle.depth.proofs.cuts.Settling.{not-dug, fills-up, settles, z4-none, no-figure-exactly}
 use Rattle.depth.proofs.cuts.LeastCut.{served-some}
