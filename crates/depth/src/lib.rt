@@ -46,7 +46,8 @@ pub struct Try {
     pub falls_in: Column,
 }
 
-// Why the worksheet cannot use a column: no entry in the squat table, silt over 120, a cut over 3,000, tested in this order.
+// Why the worksheet cannot use a column: no entry in the squat table, silt over 120 or endless, a cut over 3,000, tested in this
+// order.
 pub enum DepthFault {
     NoSquatEntry,
     SiltOver,
@@ -201,7 +202,7 @@ fn sailing_depth(stretch: Stretch, squat: u16) -> ReckonedDepth
     ReckonedDepth(draft as u64 + list + keel + stretch.allowance as u64 + squat as u64)
 }
 
-// The silt that falls into the least cut that holds it above a sailing depth: computed, and no cut is searched for.
+// The silt of the least cut that is at least a sailing depth and this silt: computed, and no cut is searched for.
 fn silt_over(stretch: Stretch, sailing: ReckonedDepth) -> u64
     requires { ⌜ sailing .0 < 2 ^ 19 ⌝ }
     ensures { λ r. ⌜ (r ≡ siltOver stretch (sailing .0)) × (r < 2 ^ 40) ⌝ }
