@@ -22,7 +22,7 @@ use Rattle.depth.specs.declared.Depth.{Depth}
 use Rattle.depth.specs.declared.Depth.the-variants.{Cut, NoCut}
 use Rattle.depth.specs.Interval.{intervalOf}
 use Rattle.depth.specs.Squat.{none, columnNumber, squatReading, squatOf}
-use Rattle.depth.specs.Depth.{z3, naturalOf, filling, sailing, z4, IsFigure, Meets, AsDefined, Ranges, depthFaultNumber, depthNumber, NoDepthNumber}
+use Rattle.depth.specs.Depth.{z3, naturalOf, filling, sailing, z4, IsFigure, SiltsUp, Meets, AsDefined, Ranges, depthFaultNumber, depthNumber, NoDepthNumber}
 use Rattle.depth.specs.Worksheet.{endless, columnTry, blankTry, findingOf, tries, worksheetOf, answerOf, workDepth, Forward, Followed, Counted}
 use Rattle.depth.specs.Reasons.{FirstUnusable, Reasoned, depthRows}
 use Rattle.depth.specs.Harder.{Harder, Deeper, NeverCured}
@@ -58,17 +58,17 @@ figure-computed = silted.figure-computed
 -- A column has no figure exactly when s exceeds N and P × interval is 100,000 or more. For an s under 2^19, as every stretch of the program has,
 -- its silt is marked endless exactly then.
 pub no-figure-exactly : (q : Stretch) (c : Column)
-    → ((d : ℕ) → IsFigure q c d → ⊥) ↔ ((naturalOf q < sailing q c) × (100000 ≤ filling q))
+    → ((d : ℕ) → IsFigure q c d → ⊥) ↔ SiltsUp q c
 no-figure-exactly = settling.no-figure-exactly
 
 pub endless-exactly : (q : Stretch) (c : Column) → sailing q c < 2 ^ 19
-    → (columnTry q c .silt ≡ endless) ↔ ((naturalOf q < sailing q c) × (100000 ≤ filling q))
+    → (columnTry q c .silt ≡ endless) ↔ SiltsUp q c
 unfolding columnTry
 endless-exactly = silted.endless-exactly
 
 -- Such a product gives 14 whenever the s of column A, which has an entry, exceeds N. Where that s does not, it is the cut, whatever the silting.
-pub filled-is-14 : (q : Stretch) → z3 q A < none → naturalOf q < sailing q A → 100000 ≤ filling q → depthNumber (workDepth q) ≡ 14
-filled-is-14 = silted.filled-is-14
+pub silts-up-is-14 : (q : Stretch) → z3 q A < none → SiltsUp q A → depthNumber (workDepth q) ≡ 14
+silts-up-is-14 = silted.silts-up-is-14
 
 pub not-dug-cut : (q : Stretch) → z3 q A < none → sailing q A ≤ naturalOf q → sailing q A ≤ 3000 → Least (Meets q) (sailing q A)
 not-dug-cut = silted.not-dug-cut

@@ -74,6 +74,10 @@ Deep q c d = sailing q c + z4 q c d ≤ d
 abbrev pub IsFigure : Stretch → Column → ℕ → Type 0
 IsFigure q c = Least (Deep q c)
 
+-- every cut of a column silts up whole, so that it has no figure: s exceeds N, and P × interval is 100,000 or more
+abbrev pub SiltsUp : Stretch → Column → Type 0
+SiltsUp q c = (naturalOf q < sailing q c) × (100000 ≤ filling q)
+
 -- a column serves a cut d: it has an entry, z4 is at most 120, and d is deep enough
 pub record Serves (q : Stretch) (c : Column) (d : ℕ) : Type 0 where
   pub entry : z3 q c < none

@@ -22,7 +22,7 @@ use Rattle.depth.proofs.squat.Columns.{column-most, reading-most, colum
 use Rattle.depth.proofs.squat.Table.{squat-some}
 use Rattle.depth.proofs.walks.Findings.{Says, finding-says, not-within, fault-known}
 use Rattle.depth.proofs.cuts.Easier.{serves-earlier}
-use Rattle.depth.proofs.cuts.Settling.{silt-leaves, figure-is, silt-is, figure-under, silt-under}
+use Rattle.depth.proofs.cuts.Settling.{silt-stays, figure-is, silt-is, figure-under, silt-under}
 use Rattle.depth.proofs.walks.Tries.{tries-count}
 use Rattle.depth.proofs.walks.Following.{walk-followed}
 use Rattle.depth.proofs.walks.Ending.{Tells, Ends, Walked, walk-right}
@@ -35,7 +35,7 @@ module _ (q : Stretch) where
   -- a column's figure is the least cut it serves, where it serves any
   figure-least : (c : Column) → z3 q c < none → silt q c ≤ 120 → Least (Serves q c) (figure q c)
   figure-least c e s =
-      let l = silt-leaves q c (omega arith) in
+      let l = silt-stays q c (omega arith) in
       record {
         holds = record { entry = e; silt = omega (arith, silt-is q c l); deep = figure-is q c l .holds };
         least = λ d v. figure-is q c l .least d (v .deep);

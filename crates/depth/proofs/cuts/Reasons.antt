@@ -26,7 +26,7 @@ use Rattle.depth.specs.Worksheet.{silt, figure, columnTry, findingOf, is
 use Rattle.depth.specs.Reasons.{Usable, Fails, Comes, there, by-way-of, FirstUnusable, Reasoned}
 use Rattle.depth.proofs.squat.Columns.{same-column}
 use Rattle.depth.proofs.walks.Findings.{no-entry, too-much-silt, too-deep, moves, Within, Past, Says, finding-says}
-use Rattle.depth.proofs.cuts.Settling.{silt-leaves, figure-is, line-figure}
+use Rattle.depth.proofs.cuts.Settling.{silt-stays, figure-is, line-figure}
 use Rattle.depth.proofs.cuts.LeastCut.{last-stops, tries-followed, work-as-defined, work-counted}
 
 -- a depth of these figures
@@ -36,7 +36,7 @@ cutOf cut sailing columns = Cut (record { cut = below cut; sailing = below saili
 module _ (q : Stretch) where
   -- a column as its line has it
   within-figure : (c : Column) → silt q c ≤ 120 → IsFigure q c (figure q c)
-  within-figure c h = figure-is q c (silt-leaves q c (omega arith))
+  within-figure c h = figure-is q c (silt-stays q c (omega arith))
 
   past-fails : (c : Column) (fault : DepthFault) → Past (columnTry q c) fault → Fails q c fault
   unfolding columnTry

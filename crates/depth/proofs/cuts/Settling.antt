@@ -1,5 +1,5 @@
--- The silt of a column's figure. Where nothing is dug down to s, or P × interval is under 100,000, the figure is the least cut that is deep enough,
--- and its silt is the z4 of that cut; else no cut is deep enough, and the silt is marked so.
+-- The silt of a column's figure. Unless every cut silts up whole, the figure is the least cut that is deep enough, and its silt the z4 of that cut;
+-- where it does, no cut is deep enough, and the silt is marked so.
 use mathlib.Core.Path.{_≡_, refl, ap, _∙_}
 use mathlib.Core.Logic.{_↔_}
 use mathlib.Core.Bool.{Bool, true, false}
@@ -13,7 +13,7 @@ use Rattle.laws.proofs.Rounding.{up-le, up-reaches}
 use Rattle.laws.proofs.Extremes.{least-only}
 use Rattle.depth.specs.declared.Stretch.{Stretch}
 use Rattle.depth.specs.declared.Column.{Column}
-use Rattle.depth.specs.Depth.{naturalOf, filling, sailing, siltTo, z4, Deep, IsFigure}
+use Rattle.depth.specs.Depth.{naturalOf, filling, sailing, siltTo, z4, Deep, IsFigure, SiltsUp}
 use Rattle.depth.specs.Worksheet.{endless, siltOver, silt, figure}
 use Rattle.depth.proofs.cuts.Easier.{as-hard, z4-rises}
 
@@ -47,36 +47,29 @@ module _ (q : Stretch) (c : Column) where
   unfolding z4 siltTo
   z4-some h d = rw (lt-leb (sailing q c) (naturalOf q) h) refl
 
-  -- something of a cut is left, whatever its silt takes
-  abbrev pub Leaves : Type 0
-  Leaves = naturalOf q < sailing q c → filling q < 100000
-
-  never-deep : naturalOf q < sailing q c → 100000 ≤ filling q → (d : ℕ) → Deep q c d → ⊥
-  never-deep h k d deep =
+  never-deep : SiltsUp q c → (d : ℕ) → ¬ Deep q c d
+  never-deep u d deep =
       let most : filling q * (d - naturalOf q) ≤ up (filling q * (d - naturalOf q)) 100000 * 100000 = up-reaches _ 100000 (omega arith) in
-      let part : 100000 * (d - naturalOf q) ≤ filling q * (d - naturalOf q) = mul-le-mul-right (d - naturalOf q) k in
-      omega (arith, z4-some h d)
+      let part : 100000 * (d - naturalOf q) ≤ filling q * (d - naturalOf q) = mul-le-mul-right (d - naturalOf q) (u .1) in
+      omega (arith, u .0, z4-some (u .0) d)
 
-  -- a cut that is deep enough leaves something, and so does silt within any limit under the mark's
-  pub deep-leaves : (d : ℕ) → Deep q c d → Leaves
-  deep-leaves d deep h = go (leb 100000 (filling q)) refl
-    where
-      go : (b : Bool) → leb 100000 (filling q) ≡ b → filling q < 100000
-      go true e = absurd (never-deep h (leb-true _ _ e) d deep)
-      go false e = leb-false _ _ e
-
-  pub silt-leaves : silt q c < endless → Leaves
+  -- silt within any limit under the mark's
+  pub silt-stays : silt q c < endless → ¬ SiltsUp q c
   unfolding silt
-  silt-leaves less h = go (leb 100000 (filling q)) refl
-    where
-      go : (b : Bool) → leb 100000 (filling q) ≡ b → filling q < 100000
-      go true e = absurd (omega (arith, fills-up q (sailing q c) h (leb-true _ _ e)))
-      go false e = leb-false _ _ e
+  silt-stays less u = omega (arith, fills-up q (sailing q c) (u .0) (u .1))
 
   z4-grows : (d e : ℕ) → d ≤ e → z4 q c d ≤ z4 q c e
   z4-grows = z4-rises q q (as-hard q) c c (le-refl _)
 
-  module _ (leaves : Leaves) where
+  module _ (stays : ¬ SiltsUp q c) where
+    -- what the silt leaves of a cut
+    some-left : naturalOf q < sailing q c → filling q < 100000
+    some-left h = go (leb 100000 (filling q)) refl
+      where
+        go : (b : Bool) → leb 100000 (filling q) ≡ b → filling q < 100000
+        go true e = absurd (stays (h, leb-true _ _ e))
+        go false e = leb-false _ _ e
+
     -- a cut is deep enough exactly when it is the figure or deeper
     deep-exactly : (d : ℕ) → Deep q c d ↔ (figure q c ≤ d)
     unfolding figure silt
@@ -91,9 +84,9 @@ module _ (q : Stretch) (c : Column) where
         go false e =
             let h : naturalOf q < sailing q c = leb-false _ _ e in
             let z = z4-some h d in
-            let t = settles q (sailing q c) h (leaves h) in
-            let o = own-part (filling q) (100000 - filling q) (sailing q c - naturalOf q) (d - sailing q c) (omega (arith, leaves h)) in
-            let whole : filling q + (100000 - filling q) ≡ 100000 = omega (arith, leaves h) in (
+            let t = settles q (sailing q c) h (some-left h) in
+            let o = own-part (filling q) (100000 - filling q) (sailing q c - naturalOf q) (d - sailing q c) (omega (arith, some-left h)) in
+            let whole : filling q + (100000 - filling q) ≡ 100000 = omega (arith, some-left h) in (
               (λ p. let w : sailing q c - naturalOf q + (d - sailing q c) ≡ d - naturalOf q = omega arith in
                   let r = o .0 (rw (whole, w) (omega arith)) in omega arith),
               (λ p. let w : sailing q c - naturalOf q + (d - sailing q c) ≡ d - naturalOf q = omega arith in
@@ -116,30 +109,29 @@ module _ (q : Stretch) (c : Column) where
 
   -- of any cut that is deep enough
   module _ (d : ℕ) (deep : Deep q c d) where
+    deep-stays : ¬ SiltsUp q c
+    deep-stays u = never-deep u d deep
+
     pub figure-under : figure q c ≤ d
-    figure-under = figure-is (deep-leaves d deep) .least d deep
+    figure-under = figure-is deep-stays .least d deep
 
     pub silt-under : silt q c ≤ z4 q c d
-    silt-under = rw (silt-is (deep-leaves d deep)) (z4-grows (figure q c) d figure-under)
+    silt-under = rw (silt-is deep-stays) (z4-grows (figure q c) d figure-under)
 
   -- of whatever is the figure
   pub line-figure : (d : ℕ) → IsFigure q c d → (figure q c ≡ d) × (silt q c ≡ z4 q c d)
   line-figure d f =
-      let leaves = deep-leaves d (f .holds) in
-      let same = least-only (Deep q c) (figure q c) d (figure-is leaves) f in
-      (same, silt-is leaves ∙ ap (z4 q c) same)
+      let stays = deep-stays d (f .holds) in
+      let same = least-only (Deep q c) (figure q c) d (figure-is stays) f in
+      (same, silt-is stays ∙ ap (z4 q c) same)
 
-  -- something is dug, and the product is 100,000 or more
-  abbrev Fills : Type 0
-  Fills = (naturalOf q < sailing q c) × (100000 ≤ filling q)
-
-  pub no-figure-exactly : ((d : ℕ) → ¬ IsFigure q c d) ↔ Fills
+  pub no-figure-exactly : ((d : ℕ) → ¬ IsFigure q c d) ↔ SiltsUp q c
   no-figure-exactly = (
     (λ none. go none (leb (sailing q c) (naturalOf q)) (leb 100000 (filling q)) refl refl),
-    (λ f d least. never-deep (f .0) (f .1) d (least .holds)),
+    (λ u d f. never-deep u d (f .holds)),
   )
     where
-      go : ((d : ℕ) → ¬ IsFigure q c d) → (a b : Bool) → leb (sailing q c) (naturalOf q) ≡ a → leb 100000 (filling q) ≡ b → Fills
-      go none true b e f = absurd (none _ (figure-is (λ h. absurd (omega (arith, leb-true, e)))))
+      go : ((d : ℕ) → ¬ IsFigure q c d) → (a b : Bool) → leb (sailing q c) (naturalOf q) ≡ a → leb 100000 (filling q) ≡ b → SiltsUp q c
+      go none true b e f = absurd (none _ (figure-is (λ u. omega (arith, leb-true, u .0))))
       go none false true e f = (leb-false _ _ e, leb-true _ _ f)
-      go none false false e f = absurd (none _ (figure-is (λ h. leb-false _ _ f)))
+      go none false false e f = absurd (none _ (figure-is (λ u. omega (arith, leb-false, u .1))))

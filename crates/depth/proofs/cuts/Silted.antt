@@ -14,7 +14,7 @@ use Rattle.depth.specs.declared.Column.{Column}
 use Rattle.depth.specs.declared.Column.the-variants.{A}
 use Rattle.depth.specs.declared.DepthFault.the-variants.{SiltOver}
 use Rattle.depth.specs.Squat.{none}
-use Rattle.depth.specs.Depth.{z3, naturalOf, filling, sailing, ownColumn, Serves, Meets, depthNumber}
+use Rattle.depth.specs.Depth.{z3, naturalOf, filling, sailing, SiltsUp, ownColumn, Serves, Meets, depthNumber}
 use Rattle.depth.specs.Worksheet.{endless, silt, figure, workDepth}
 use Rattle.depth.specs.Reasons.{there}
 use Rattle.depth.proofs.Sizes.{filling-product}
@@ -38,11 +38,11 @@ module _ (q : Stretch) (c : Column) where
       omega (arith, settles q (sailing q c) h k, sym (ap (λ (n : ℕ). n / left) whole) ∙ parts)
 
   -- in the numbers of a stretch no silt is as great as the mark
-  pub endless-exactly : sailing q c < 2 ^ 19 → (silt q c ≡ endless) ↔ ((naturalOf q < sailing q c) × (100000 ≤ filling q))
+  pub endless-exactly : sailing q c < 2 ^ 19 → (silt q c ≡ endless) ↔ SiltsUp q c
   unfolding silt
   endless-exactly small = (
     (λ e. go e (leb (sailing q c) (naturalOf q)) (leb 100000 (filling q)) refl refl),
-    (λ f. sym (fills-up q (sailing q c) (f .0) (f .1))),
+    (λ u. sym (fills-up q (sailing q c) (u .0) (u .1))),
   )
     where
       settled : naturalOf q < sailing q c → filling q < 100000 → silt q c < endless
@@ -52,17 +52,16 @@ module _ (q : Stretch) (c : Column) where
           let fewer = div-le-self (filling q * (sailing q c - naturalOf q) + (left - 1)) left in
           omega (arith, settles q (sailing q c) h k)
 
-      go : silt q c ≡ endless → (a b : Bool) → leb (sailing q c) (naturalOf q) ≡ a → leb 100000 (filling q) ≡ b
-          → (naturalOf q < sailing q c) × (100000 ≤ filling q)
+      go : silt q c ≡ endless → (a b : Bool) → leb (sailing q c) (naturalOf q) ≡ a → leb 100000 (filling q) ≡ b → SiltsUp q c
       go e true b f g = absurd (omega (arith, not-dug q (sailing q c) (leb-true _ _ f)))
       go e false true f g = (leb-false _ _ f, leb-true _ _ g)
       go e false false f g = absurd (omega (arith, settled (leb-false _ _ f) (leb-false _ _ g)))
 
 module _ (q : Stretch) (entry : z3 q A < none) where
-  pub filled-is-14 : naturalOf q < sailing q A → 100000 ≤ filling q → depthNumber (workDepth q) ≡ 14
-  filled-is-14 h k =
+  pub silts-up-is-14 : SiltsUp q A → depthNumber (workDepth q) ≡ 14
+  silts-up-is-14 u =
       number-exactly q SiltOver .1
-      (record { column = A; reached = there A; fails = (entry, λ d f. absurd (no-figure-exactly q A .1 (h, k) d f)) })
+      (record { column = A; reached = there A; fails = (entry, λ d f. absurd (no-figure-exactly q A .1 u d f)) })
 
   -- where nothing is dug down to the s of column A, that s is the cut, whatever the silting
   pub not-dug-cut : sailing q A ≤ naturalOf q → sailing q A ≤ 3000 → Least (Meets q) (sailing q A)
