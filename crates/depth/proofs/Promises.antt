@@ -44,10 +44,16 @@ pub squat-never-falls : (lanes lanes' : Lanes) (c c' : Column) (speed speed' : �
     → columnNumber c ≤ columnNumber c' → 2 ≤ speed → speed ≤ speed' → squatOf lanes c speed ≤ squatOf lanes' c' speed'
 squat-never-falls = lanes-columns-speeds
 
--- The line of a column shows its figure, the least d that is at least s + z4 of d itself, and that z4.
-pub figure-shown : (q : Stretch) (c : Column) (d : ℕ) → IsFigure q c d → (columnTry q c .figure .0 ≡ d) × (columnTry q c .silt ≡ z4 q c d)
+-- Unless every cut silts up whole, the line of a column shows its figure, the least d that is at least s + z4 of d itself, and that z4.
+pub figure-shown : (q : Stretch) (c : Column) → ¬ SiltsUp q c
+    → IsFigure q c (columnTry q c .figure .0) × (columnTry q c .silt ≡ z4 q c (columnTry q c .figure .0))
 unfolding columnTry
-figure-shown = settling.line-figure
+figure-shown q c stays = (settling.figure-is q c stays, settling.silt-is q c stays)
+
+-- Nothing else is the figure.
+pub no-other-figure : (q : Stretch) (c : Column) (d : ℕ) → IsFigure q c d → columnTry q c .figure .0 ≡ d
+unfolding columnTry
+no-other-figure q c d f = settling.line-figure q c d f .0
 
 -- It is computed and not searched: N and the dug part of s over the part that the silt leaves.
 pub figure-computed : (q : Stretch) (c : Column) → naturalOf q < sailing q c → filling q < 100000
@@ -57,12 +63,10 @@ figure-computed = silted.figure-computed
 
 -- A column has no figure exactly when s exceeds N and P × interval is 100,000 or more. For an s under 2^19, as every stretch of the program has,
 -- its silt is marked endless exactly then.
-pub no-figure-exactly : (q : Stretch) (c : Column)
-    → ((d : ℕ) → IsFigure q c d → ⊥) ↔ SiltsUp q c
+pub no-figure-exactly : (q : Stretch) (c : Column) → ((d : ℕ) → ¬ IsFigure q c d) ↔ SiltsUp q c
 no-figure-exactly = settling.no-figure-exactly
 
-pub endless-exactly : (q : Stretch) (c : Column) → sailing q c < 2 ^ 19
-    → (columnTry q c .silt ≡ endless) ↔ SiltsUp q c
+pub endless-exactly : (q : Stretch) (c : Column) → sailing q c < 2 ^ 19 → (columnTry q c .silt ≡ endless) ↔ SiltsUp q c
 unfolding columnTry
 endless-exactly = silted.endless-exactly
 
