@@ -77,7 +77,7 @@ enum channel_code {
     CHANNEL_NO_WIDTH_ENTRY = 8,     /* cross current or wave over what sheltered water has */
     CHANNEL_PLACE_TOO_SMALL = 12,   /* place_length under 52; nothing is written */
     CHANNEL_NO_SQUAT_ENTRY = 13,    /* no depth: the first column that the worksheet cannot use has no squat entry, */
-    CHANNEL_SILT_OVER = 14,         /* or silt over 120 cm, or every cut silts up whole, */
+    CHANNEL_SILT_OVER = 14,         /* or silt over 120 cm, or all that is dug silts up before it is dredged again, */
     CHANNEL_CUT_OVER = 15,          /* or a cut over 30 m */
     CHANNEL_UNDER_THREE_BEAMS = 18  /* the length is under three beams; tested straight after 3 */
 };

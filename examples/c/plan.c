@@ -20,7 +20,7 @@ static const char *reason(uint32_t code) {
     case CHANNEL_BEND_TOO_TIGHT: return "its bend is too tight";
     case CHANNEL_NO_WIDTH_ENTRY: return "sheltered water has no entry for its current or wave";
     case CHANNEL_NO_SQUAT_ENTRY: return "it is too fast for the squat table: slow the ship";
-    case CHANNEL_SILT_OVER: return "its silt is over 120 cm, or fills every cut whole: dredge oftener";
+    case CHANNEL_SILT_OVER: return "its silt is over 120 cm, or fills all that is dug: dredge oftener";
     case CHANNEL_CUT_OVER: return "its cut is over 30 m";
     case CHANNEL_UNDER_THREE_BEAMS: return "its length is under three beams: have length and beam changed places?";
     default: return "no reason that this program knows";

@@ -22,9 +22,9 @@ use Rattle.depth.specs.declared.Depth.{Depth}
 use Rattle.depth.specs.declared.Depth.the-variants.{Cut, NoCut}
 use Rattle.depth.specs.Interval.{intervalOf}
 use Rattle.depth.specs.Squat.{none, columnNumber, squatReading, squatOf}
-use Rattle.depth.specs.Depth.{z3, naturalOf, filling, sailing, z4, IsFigure, SiltsUp, Meets, AsDefined, Ranges, depthFaultNumber, depthNumber, NoDepthNumber}
+use Rattle.depth.specs.Depth.{z3, naturalOf, filling, sailing, z4, Meets, AsDefined, Ranges, depthFaultNumber, depthNumber, NoDepthNumber}
 use Rattle.depth.specs.Worksheet.{endless, columnTry, blankTry, findingOf, tries, worksheetOf, answerOf, workDepth, Forward, Followed, Counted}
-use Rattle.depth.specs.Reasons.{FirstUnusable, Reasoned, depthRows}
+use Rattle.depth.specs.Reasons.{IsFigure, SiltsUp, FirstUnusable, Reasoned, depthRows}
 use Rattle.depth.specs.Harder.{Harder, Deeper, NeverCured}
 use Rattle.depth.specs.Starred.{cases, figures}
 use Rattle.depth.proofs.squat.Table.{lanes-columns-speeds}

@@ -70,14 +70,6 @@ z4 q c d = if sailing q c ≤ᵇ naturalOf q then 0 else siltTo q d
 abbrev pub Deep : Stretch → Column → ℕ → Type 0
 Deep q c d = sailing q c + z4 q c d ≤ d
 
--- the figure of a column: the least cut that is deep enough in it
-abbrev pub IsFigure : Stretch → Column → ℕ → Type 0
-IsFigure q c = Least (Deep q c)
-
--- every cut of a column silts up whole, so that it has no figure: s exceeds N, and P × interval is 100,000 or more
-abbrev pub SiltsUp : Stretch → Column → Type 0
-SiltsUp q c = (naturalOf q < sailing q c) × (100000 ≤ filling q)
-
 -- a column serves a cut d: it has an entry, z4 is at most 120, and d is deep enough
 pub record Serves (q : Stretch) (c : Column) (d : ℕ) : Type 0 where
   pub entry : z3 q c < none

@@ -2,6 +2,7 @@
 use mathlib.Core.List.{List, [], _∷_}
 use mathlib.Core.Logic.{_≢_}
 use Prim.Native.Nat.{ℕ, _≤_, _<_}
+use Rattle.laws.specs.Extremes.{Least}
 use Rattle.laws.specs.Rows.{Row, _when_}
 use Rattle.depth.specs.declared.Stretch.{Stretch}
 use Rattle.depth.specs.declared.Column.{Column}
@@ -11,7 +12,15 @@ use Rattle.depth.specs.declared.DepthFault.the-variants.{NoSquatEntry, S
 use Rattle.depth.specs.declared.Depth.{Depth}
 use Rattle.depth.specs.declared.Depth.the-variants.{Cut, NoCut}
 use Rattle.depth.specs.Squat.{none}
-use Rattle.depth.specs.Depth.{z3, z4, IsFigure, ownColumn}
+use Rattle.depth.specs.Depth.{z3, naturalOf, filling, sailing, z4, Deep, ownColumn}
+
+-- the figure of a column: the least cut that is deep enough in it
+abbrev pub IsFigure : Stretch → Column → ℕ → Type 0
+IsFigure q c = Least (Deep q c)
+
+-- every cut of a column silts up whole, so that it has no figure: s exceeds N, and P × interval is 100,000 or more
+abbrev pub SiltsUp : Stretch → Column → Type 0
+SiltsUp q c = (naturalOf q < sailing q c) × (100000 ≤ filling q)
 
 -- a column that can be used, with its figure d: an entry, silt of at most 120, d at most 3,000
 pub record Usable (q : Stretch) (c : Column) (d : ℕ) : Type 0 where

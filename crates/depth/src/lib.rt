@@ -202,7 +202,8 @@ fn sailing_depth(stretch: Stretch, squat: u16) -> ReckonedDepth
     ReckonedDepth(draft as u64 + list + keel + stretch.allowance as u64 + squat as u64)
 }
 
-// The silt of the least cut that is at least a sailing depth and this silt: computed, and no cut is searched for.
+// The silt z4 of a column's figure, the least cut that is at least s + z4, where z4 is silting × interval × (cut - N) / 100,000,
+// rounded up. With s + z4 for the cut this comes to silting × interval × (s - N) / (100,000 - silting × interval).
 fn silt_over(stretch: Stretch, sailing: ReckonedDepth) -> u64
     requires { ⌜ sailing .0 < 2 ^ 19 ⌝ }
     ensures { λ r. ⌜ (r ≡ siltOver stretch (sailing .0)) × (r < 2 ^ 40) ⌝ }

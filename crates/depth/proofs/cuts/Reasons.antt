@@ -21,9 +21,9 @@ use Rattle.depth.specs.declared.Finding.the-variants.{Stays, Moves, Unus
 use Rattle.depth.specs.declared.Depth.{Depth}
 use Rattle.depth.specs.declared.Depth.the-variants.{Cut, NoCut}
 use Rattle.depth.specs.Squat.{none, columnNumber}
-use Rattle.depth.specs.Depth.{sailing, Deep, IsFigure, ownColumn, Meets, AsDefined, depthFaultNumber, depthNumber, NoDepthNumber}
+use Rattle.depth.specs.Depth.{sailing, Deep, ownColumn, Meets, AsDefined, depthFaultNumber, depthNumber, NoDepthNumber}
 use Rattle.depth.specs.Worksheet.{silt, figure, columnTry, findingOf, isMove, movesOn, tries, lastTry, answerBy, answerOf, workDepth, Followed, Counted}
-use Rattle.depth.specs.Reasons.{Usable, Fails, Comes, there, by-way-of, FirstUnusable, Reasoned}
+use Rattle.depth.specs.Reasons.{IsFigure, Usable, Fails, Comes, there, by-way-of, FirstUnusable, Reasoned}
 use Rattle.depth.proofs.squat.Columns.{same-column}
 use Rattle.depth.proofs.walks.Findings.{no-entry, too-much-silt, too-deep, moves, Within, Past, Says, finding-says}
 use Rattle.depth.proofs.cuts.Settling.{silt-stays, figure-is, line-figure}

@@ -13,8 +13,9 @@ use Rattle.laws.proofs.Rounding.{up-le, up-reaches}
 use Rattle.laws.proofs.Extremes.{least-only}
 use Rattle.depth.specs.declared.Stretch.{Stretch}
 use Rattle.depth.specs.declared.Column.{Column}
-use Rattle.depth.specs.Depth.{naturalOf, filling, sailing, siltTo, z4, Deep, IsFigure, SiltsUp}
+use Rattle.depth.specs.Depth.{naturalOf, filling, sailing, siltTo, z4, Deep}
 use Rattle.depth.specs.Worksheet.{endless, siltOver, silt, figure}
+use Rattle.depth.specs.Reasons.{IsFigure, SiltsUp}
 use Rattle.depth.proofs.cuts.Easier.{as-hard, z4-rises}
 
 -- y more than a holds the part K of K + L that falls into the whole, exactly when it holds K a over L

@@ -3,7 +3,7 @@ use mathlib.Core.Path.{_≡_, refl, sym, ap, _∙_}
 use mathlib.Core.Logic.{_↔_}
 use mathlib.Core.Bool.{Bool, true, false}
 use Prim.Native.Nat.{ℕ, _+_, _-_, _*_, _/_, _^_, _≤_, _<_}
-use native.Mathlib.Nat.{div-le-self, add-mul-div-right}
+use native.Mathlib.Nat.{add-mul-div-right}
 use native.Mathlib.Omega.{arith}
 use borrow.Author.Tests.{leb-true, leb-false}
 use lib.Dec.{leb}
@@ -14,10 +14,10 @@ use Rattle.depth.specs.declared.Column.{Column}
 use Rattle.depth.specs.declared.Column.the-variants.{A}
 use Rattle.depth.specs.declared.DepthFault.the-variants.{SiltOver}
 use Rattle.depth.specs.Squat.{none}
-use Rattle.depth.specs.Depth.{z3, naturalOf, filling, sailing, SiltsUp, ownColumn, Serves, Meets, depthNumber}
+use Rattle.depth.specs.Depth.{z3, naturalOf, filling, sailing, ownColumn, Serves, Meets, depthNumber}
 use Rattle.depth.specs.Worksheet.{endless, silt, figure, workDepth}
-use Rattle.depth.specs.Reasons.{there}
-use Rattle.depth.proofs.Sizes.{filling-product}
+use Rattle.depth.specs.Reasons.{SiltsUp, there}
+use Rattle.depth.proofs.Sizes.{silt-size}
 use Rattle.depth.proofs.squat.Columns.{column-a}
 use Rattle.depth.proofs.cuts.Easier.{serves-earlier}
 use Rattle.depth.proofs.cuts.Settling.{not-dug, fills-up, settles, z4-none, no-figure-exactly}
@@ -46,11 +46,7 @@ module _ (q : Stretch) (c : Column) where
   )
     where
       settled : naturalOf q < sailing q c → filling q < 100000 → silt q c < endless
-      settled h k =
-          let left = 100000 - filling q in
-          let fallen = filling-product {filling = filling q} {dug = sailing q c - naturalOf q} k (omega arith) in
-          let fewer = div-le-self (filling q * (sailing q c - naturalOf q) + (left - 1)) left in
-          omega (arith, settles q (sailing q c) h k)
+      settled h k = omega (arith, settles q (sailing q c) h k, silt-size {filling = filling q} {dug = sailing q c - naturalOf q} k (omega arith))
 
       go : silt q c ≡ endless → (a b : Bool) → leb (sailing q c) (naturalOf q) ≡ a → leb 100000 (filling q) ≡ b → SiltsUp q c
       go e true b f g = absurd (omega (arith, not-dug q (sailing q c) (leb-true _ _ f)))

@@ -1,10 +1,9 @@
 -- `depth::silt_over` meets its contract: a way out for nothing dug, for a cut that silts up whole, and for one that holds its silt, whose product fits 36 bits.
-use Prim.Native.Nat.{_+_, _-_, _*_, _^_, _<_}
-use native.Mathlib.Nat.{div-le-self}
+use Prim.Native.Nat.{_*_, _^_, _<_}
 use native.Mathlib.Omega.{arith}
 use Rattle.laws.proofs.Products.{product-lt}
 use Rattle.depth.specs.Depth.{filling}
-use Rattle.depth.proofs.Sizes.{filling-product}
+use Rattle.depth.proofs.Sizes.{filling-product, silt-size}
 use Rattle.depth.proofs.cuts.Settling.{not-dug, fills-up, settles}
 use borrow.Author.Needs.{needs}
 use Rattle.depth.proofs.silt_over.Statement.{statement}
@@ -38,9 +37,8 @@ add-result c = omega (arith, fallen c)
 returns-3 : tie.Need-returns-3
 returns-3 c =
     let a = c .before .before .before .before .before .before .args in
-    let left = 100000 - filling (a .stretch) in
-    let fewer = div-le-self (filling (a .stretch) * c .before .before .before .before .dug-to .result + (left - 1)) left in
-    (rw (c .before .before .before .before .dug-to .ensures) (settles (a .stretch) (a .sailing .0) (omega arith) (omega arith)), omega (arith, fallen c))
+    let dug = c .before .before .before .before .dug-to in
+    (rw (dug .ensures) (settles (a .stretch) (a .sailing .0) (omega arith) (omega arith)), omega (arith, silt-size {filling = filling (a .stretch)} {dug = dug .result} (omega arith) (omega arith)))
 
 pub silt-over-spec : {M : Type 1} → statement M
 silt-over-spec =
