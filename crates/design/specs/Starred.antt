@@ -15,20 +15,20 @@ writing s = bytesOf (figuresOf s)
 
 abbrev pub starredSheets : List Sheet
 starredSheets =
-    alteredS 20000 3000 8 500 30 0 1 0 0  -- S
-    ∷ alteredS 20000 3000 8 500 30 0 2 0 0  -- two lanes
-    ∷ alteredS 20000 3000 8 500 30 100 1 0 0  -- P 100
-    ∷ alteredS 20000 3000 8 0 30 0 1 0 0  -- bed 0
-    ∷ alteredS 20000 3000 8 578 31 0 1 0 0  -- z2 31, bed 578
-    ∷ alteredS 20000 3000 8 577 31 0 1 0 0  -- bed 577
-    ∷ alteredS 20000 3000 12 610 30 0 1 0 0  -- speed 12, bed 610
-    ∷ alteredS 20000 3000 12 600 30 0 1 0 0  -- bed 600
-    ∷ alteredS 20000 3000 8 500 30 0 1 30 1500  -- turn 30, radius 1,500
-    ∷ alteredS 20000 3000 8 500 30 0 1 30 2000  -- 2,000
-    ∷ alteredS 20000 3000 8 500 30 0 1 30 999  -- 999
-    ∷ alteredS 6000 4000 8 500 30 0 1 0 0  -- length 60 m, beam 40 m
-    ∷ alteredS 11999 4000 8 500 30 0 1 0 0  -- length 119.99 m
-    ∷ alteredS 12000 4000 8 500 30 0 1 0 0  -- length 120 m
+    alteredS 20000 3000 8 500 30 0 1 0 0 0  -- S
+    ∷ alteredS 20000 3000 8 500 30 0 2 0 0 0  -- two lanes
+    ∷ alteredS 20000 3000 8 500 30 100 1 0 0 0  -- P 100
+    ∷ alteredS 20000 3000 8 0 30 0 1 0 0 0  -- bed 0
+    ∷ alteredS 20000 3000 8 578 31 0 1 0 0 0  -- z2 31, bed 578
+    ∷ alteredS 20000 3000 8 577 31 0 1 0 0 0  -- bed 577
+    ∷ alteredS 20000 3000 12 610 30 0 1 0 0 0  -- speed 12, bed 610
+    ∷ alteredS 20000 3000 12 600 30 0 1 0 0 0  -- bed 600
+    ∷ alteredS 20000 3000 8 500 30 0 1 30 1500 0  -- turn 30, radius 1,500
+    ∷ alteredS 20000 3000 8 500 30 0 1 30 2000 0  -- 2,000
+    ∷ alteredS 20000 3000 8 500 30 0 1 30 999 0  -- 999
+    ∷ alteredS 6000 4000 8 500 30 0 1 0 0 0  -- length 60 m, beam 40 m
+    ∷ alteredS 11999 4000 8 500 30 0 1 0 0 0  -- length 119.99 m
+    ∷ alteredS 12000 4000 8 500 30 0 1 0 0 0  -- length 120 m
     ∷ []
 
 -- code, field, level, lanes, s, cut, datum depth, width, widening, columns tried, three classes; the level given is 0

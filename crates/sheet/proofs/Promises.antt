@@ -45,7 +45,7 @@ pub number-3 : (bytes : List ℕ) → Bytes bytes → (k : ℕ)
     → ((readNumber (readOf bytes) ≡ 3) × (readField (readOf bytes) ≡ k)) ↔ (Least (Bad (groupsOf bytes)) k × NoneBefore (readRows bytes) 3)
 number-3 = named-exactly
 
--- A bad field is one of the 28, and the field that is given is at most 28.
+-- A bad field is one of the 29, and the field that is given is at most 29.
 pub bad-within : (figures : List ℕ) (k : ℕ) → Bad figures k → k ≤ count
 bad-within = bad-is-field
 

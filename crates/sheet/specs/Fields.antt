@@ -45,17 +45,18 @@ fields =
     ∷ 15 bits 0 upto 20000  -- 26 radius, m
     ∷ 1 bits 0 upto 1  -- 27 level source
     ∷ 11 bits 0 upto 2000  -- 28 level plus 500, cm
+    ∷ 5 bits 0 upto 30  -- 29 side slope
     ∷ []
 
 -- how many fields there are, and how many groups of bits, the spare bits with them
 abbrev pub count : ℕ
-count = 28
+count = 29
 
 abbrev pub groups : ℕ
 groups = suc count
 
 abbrev pub spareBits : ℕ
-spareBits = 12
+spareBits = 7
 
 -- the field after the first k
 unfoldable pub fieldAt : ℕ → Field

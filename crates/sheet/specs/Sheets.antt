@@ -54,6 +54,7 @@ sheetWith figures bed level =
       turn = field figures 25;
       radius = field figures 26;
       level = level;
+      slope = field figures 29;
     }
 
 unfoldable pub sheetOf : List ℕ → Sheet
@@ -86,7 +87,7 @@ figuresOf s =
     s .deadweight ∷ s .draft ∷ s .length ∷ s .beam ∷ s .speed ∷ bedFigure (s .bed) ∷ s .soil ∷ s .allowance ∷ s .silting
     ∷ s .interval ∷ s .lanes ∷ s .channel ∷ s .ships ∷ s .water ∷ s .handling ∷ s .wind ∷ s .cross .0 ∷ s .along .0 ∷ s .wave
     ∷ s .aids ∷ s .bottom ∷ s .cargo ∷ s .left ∷ s .right ∷ s .turn ∷ s .radius ∷ sourceFigure (s .level)
-    ∷ levelFigure (s .level) ∷ []
+    ∷ levelFigure (s .level) ∷ s .slope ∷ []
 
 -- the sheet of figures, or the first field that is bad
 unfoldable pub sheetFrom : List ℕ → SheetRead

@@ -10,7 +10,7 @@ pub struct Field(pub u32, pub u32, pub u32);
 // How many groups of bits there are, the spare bits with them.
 pub const GROUPS: usize = COUNT + 1;
 
-const SPARE_BITS: u32 = 12;
+const SPARE_BITS: u32 = 7;
 
 // The field after the first i. A match and no array: the compiler would build the array anew at each call.
 fn field_at(i: usize) -> Field
@@ -45,6 +45,7 @@ fn field_at(i: usize) -> Field
         25 => Field(15, 0, 20000), // 26 radius, m
         26 => Field(1, 0, 1), // 27 level source
         27 => Field(11, 0, 2000), // 28 level plus 500, cm
+        28 => Field(5, 0, 30), // 29 side slope
         _ => Field(0, 0, 0), // no field
     }
 }

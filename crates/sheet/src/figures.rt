@@ -88,6 +88,7 @@ fn sheet_with(f: [u32; COUNT], bed: BelowChart, level: LevelSource) -> Sheet
         turn: f[24] as u8,
         radius: f[25] as u16,
         level,
+        slope: f[28] as u8,
     }
 }
 
@@ -138,5 +139,6 @@ pub fn in_order(sheet: Sheet) -> [u32; COUNT]
         sheet.radius as u32,
         source,
         given,
+        sheet.slope as u32,
     ]
 }

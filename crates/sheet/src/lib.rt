@@ -1,4 +1,4 @@
-// The sheet: 28 bytes, 28 fields packed most significant bit first (definition, section 1).
+// The sheet: 28 bytes, 29 fields packed most significant bit first (definition, section 1).
 ghost use mathlib.Core.Path.{_≡_};
 ghost use Rattle.sheet.specs.Refusals.{readFaultNumber, readFaultField, writeFaultNumber, writeFaultField};
 ghost use Rattle.sheet.specs.Sheets.{figuresOf, sheetFrom, readOf, writtenOf, placeOf};
@@ -12,7 +12,7 @@ mod fields;
 mod figures;
 
 // How many fields a sheet has.
-pub const COUNT: usize = 28;
+pub const COUNT: usize = 29;
 
 // Where the design level comes from: off the record, or given with its figure.
 pub enum LevelSource {
@@ -72,6 +72,8 @@ pub struct Sheet {
     pub radius: u16,
     // 27 and 28
     pub level: LevelSource,
+    // 29, the m of a side slope 1/m; 0 for no check
+    pub slope: u8,
 }
 
 // Why a string of bytes is no sheet.

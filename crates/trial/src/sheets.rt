@@ -68,7 +68,7 @@ fn written(sheet: Sheet, place: &mut [u8]) -> u32 {
     }
 }
 
-// Writes the sheet of 28 figures, with one field set to another figure: its number and that figure stand behind them.
+// Writes the sheet of 29 figures, with one field set to another figure: its number and that figure stand behind them.
 #[no_mangle]
 pub extern "C" fn trial_write(figures: &[u32], place: &mut [u8]) -> u32 {
     let made = sheet::sheet_from(array_of(figures));

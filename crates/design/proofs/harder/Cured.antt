@@ -29,10 +29,10 @@ use Rattle.design.proofs.answers.Numbers.{zero-exactly}
 use Rattle.design.proofs.Starred.{starred}
 
 abbrev shorter : List ℕ
-shorter = writing (alteredS 11999 4000 8 500 30 0 1 0 0)
+shorter = writing (alteredS 11999 4000 8 500 30 0 1 0 0 0)
 
 abbrev longer : List ℕ
-longer = writing (alteredS 12000 4000 8 500 30 0 1 0 0)
+longer = writing (alteredS 12000 4000 8 500 30 0 1 0 0 0)
 
 bytes : (sheet : List ℕ) → T (every size (λ (k : ℕ). nth sheet k <ᵇ 256)) → Bytes sheet
 bytes sheet t k h = ltb→lt (nth sheet k) 256 (every-at size (λ (j : ℕ). nth sheet j <ᵇ 256) t k h)

@@ -13,7 +13,7 @@ use Rattle.sheet.specs.Packing.{Narrow}
 -- the bits of the types, in the order of the fields
 abbrev typeBits : List ℕ
 typeBits =
-    32 ∷ 16 ∷ 16 ∷ 16 ∷ 8 ∷ 16 ∷ 8 ∷ 16 ∷ 16 ∷ 8 ∷ 8 ∷ 32 ∷ 16 ∷ 8 ∷ 8 ∷ 8 ∷ 8 ∷ 8 ∷ 16 ∷ 8 ∷ 8 ∷ 8 ∷ 8 ∷ 8 ∷ 8 ∷ 16 ∷ 8 ∷ 16 ∷ []
+    32 ∷ 16 ∷ 16 ∷ 16 ∷ 8 ∷ 16 ∷ 8 ∷ 16 ∷ 16 ∷ 8 ∷ 8 ∷ 32 ∷ 16 ∷ 8 ∷ 8 ∷ 8 ∷ 8 ∷ 8 ∷ 16 ∷ 8 ∷ 8 ∷ 8 ∷ 8 ∷ 8 ∷ 8 ∷ 16 ∷ 8 ∷ 16 ∷ 8 ∷ []
 
 abbrev typeBitsAt : ℕ → ℕ
 typeBitsAt k = getD typeBits k 0

@@ -47,7 +47,7 @@ module _ (b : List ℕ) (P : SheetRead → Type 0) where
       go true false p q = spare (eqb-true _ _ p) (eqb-false _ _ q)
       go false z p q = long (eqb-false _ _ p)
 
--- the field that is given is at most 28
+-- the field that is given is at most 29
 pub named-within : (b : List ℕ) → readField (readOf b) ≤ count
 named-within b =
     read-cases b (λ r. readField r ≤ count) (λ h. zero-le) (λ l z. zero-le)

@@ -37,4 +37,5 @@ field-at-spec =
     (λ c. rw (c .match .keys26))
     (λ c. rw (c .match .keys27))
     (λ c. rw (c .match .keys28))
+    (λ c. rw (c .match .keys29))
     (λ c. no-field _ (missed-past count _ (c .match .rest))))

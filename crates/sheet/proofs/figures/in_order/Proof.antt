@@ -9,7 +9,7 @@ use Rattle.sheet.proofs.figures.in_order.Tie as tie
 returns : tie.Need-returns
 unfolding figuresOf
 returns c =
-    let d = c .before .before .before .before .before .before .before .before .before .before .before .before .before .before .before .before .before .before .before .before .before .before .before in
+    let d = c .before .before .before .before .before .before .before .before .before .before .before .before .before .before .before .before .before .before .before .before .before .before .before .before in
     rw (d .level-figure .ensures, d .before .source-figure .ensures, d .before .before .bed-figure .ensures)
 
 pub in-order-spec : {M : Type 1} → statement M
@@ -42,4 +42,5 @@ in-order-spec =
     (λ c. fits-widen tt (c .struct-known21 .given .1 .1 .1 .1 .1 .1 .1 .1 .1 .1 .1 .1 .1 .1 .1 .1 .1 .1 .1 .1 .1 .1 .1 .0))
     (λ c. fits-widen tt (c .struct-known22 .given .1 .1 .1 .1 .1 .1 .1 .1 .1 .1 .1 .1 .1 .1 .1 .1 .1 .1 .1 .1 .1 .1 .1 .1 .0))
     (λ c. fits-widen tt (c .struct-known23 .given .1 .1 .1 .1 .1 .1 .1 .1 .1 .1 .1 .1 .1 .1 .1 .1 .1 .1 .1 .1 .1 .1 .1 .1 .1 .0))
+    (λ c. fits-widen tt (c .struct-known24 .given .1 .1 .1 .1 .1 .1 .1 .1 .1 .1 .1 .1 .1 .1 .1 .1 .1 .1 .1 .1 .1 .1 .1 .1 .1 .1 .1 .0))
     returns)

@@ -57,4 +57,6 @@ sheet-with-spec =
     (λ c. record { fits = held _ (c .pre) 24 (lit< tt) })
     (λ c. search needs)
     (λ c. record { fits = held _ (c .pre) 25 (lit< tt) })
+    (λ c. search needs)
+    (λ c. record { fits = held _ (c .pre) 28 (lit< tt) })
     (λ c. search needs))
