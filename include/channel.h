@@ -15,7 +15,7 @@ extern "C" {
 #define CHANNEL_SHEET 28
 #define CHANNEL_PLACE 52
 
-/* The fields of a sheet, most significant bit first: number, bits, least to greatest, and what it is. Then 12 spare bits,
+/* The fields of a sheet, most significant bit first: number, bits, least to greatest, and what it is. Then 7 spare bits,
  * zero.
  *   1 20 1-600000   deadweight, t
  *   2 12 700-2500   draft, cm
@@ -46,6 +46,7 @@ extern "C" {
  *  26 15 0-20000    radius, m; 0 exactly where the turn is 0
  *  27  1 0-1        level source: 0 off the record, 1 given
  *  28 11 0-2000     given level plus 500, cm; 0 where the level comes off the record
+ *  29  5 0-30       side slope 1/m: the m, metres across for one down; 0 for no check of the critical speed
  */
 
 /* The thirteen numbers, in their order: each a signed 32-bit number, most significant byte first. Lengths are in cm. */
