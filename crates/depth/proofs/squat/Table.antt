@@ -8,21 +8,13 @@ use native.Mathlib.Omega.{arith}
 use borrow.Author.Tests.{ltb-true, ltb-false, lt-ltb, le-ltb}
 use lib.Dec.{T, ltb, leb→le, le→leb}
 use lib.ListN.{getD}
-use Rattle.laws.specs.Choice.{if_then_else_, _≤ᵇ_}
+use Rattle.laws.specs.Choice.{_≤ᵇ_}
 use Rattle.laws.specs.Every.{every}
-use Rattle.laws.proofs.Every.{every-at}
+use Rattle.laws.proofs.Every.{where-true, holds-there, every-at}
 use Rattle.lanes.specs.declared.Lanes.{Lanes}
 use Rattle.depth.specs.declared.Column.{Column}
 use Rattle.depth.specs.Squat.{none, squatTable, columnNumber, squatReading, squatEntry, squatOf}
 use Rattle.depth.proofs.squat.Columns.{column-most, reading-most}
-
--- the second test, where the first holds
-abbrev where-true : Bool → Bool → Bool
-where-true a b = if a then b else true
-
-holds-there : (a b : Bool) → T (where-true a b) → T a → T b
-holds-there true b t h = t
-holds-there false b t h = absurd h
 
 -- a speed outside the table has no entry
 module _ (c l v : ℕ) where
