@@ -1,0 +1,3 @@
+mod Meaning
+pub mod Refusals
+pub mod Promises
