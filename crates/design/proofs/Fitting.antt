@@ -1,5 +1,5 @@
 -- Each number of a design fits 32 bits: each figure by what it is and what its room says of it, a number that turns a sheet away by its row, and
--- its field as it is one of the 28.
+-- its field as it is one of the 29.
 use mathlib.Core.Path.{_≡_, refl}
 use mathlib.Core.Bool.{Bool, true, false}
 use mathlib.Core.List.{List}
@@ -32,8 +32,8 @@ use Rattle.width.proofs.Promises.{width-fits, widening-fits}
 use Rattle.class.proofs.Promises.{ship-class-within, width-class-within, depth-class-within}
 use Rattle.design.specs.Design.{widthStretch, lanesFor, designOf}
 use Rattle.design.specs.Numbers.{numberCount, numbersOf}
-use Rattle.design.specs.Refusals.{reasonNumber, reasonField, sheetIn, levelFrom, levelIn, rows}
-use Rattle.design.specs.Answers.{stretchOf, widthIn, FiguresAre, NamesFirst}
+use Rattle.design.specs.Refusals.{reasonNumber, reasonField, NamesFirst, sheetIn, levelFrom, levelIn, rows}
+use Rattle.design.specs.Answers.{stretchOf, widthIn, FiguresAre}
 use Rattle.design.specs.declared.Figures.{Figures}
 use Rattle.design.specs.declared.Reason.{Reason}
 use Rattle.design.specs.declared.Answer.{Answer}

@@ -40,7 +40,7 @@ use Rattle.design.specs.Design.{levelFor, designAt, designOf}
 use Rattle.design.specs.Numbers.{codeOf, fieldOf, numberCount, numbersOf}
 use Rattle.design.specs.Refusals.{reasonNumber, reasonField, sheetIn, UnderThreeBeams, levelIn, offRecord, rows}
 use Rattle.design.specs.Answers.{stretchOf, FiguresAre}
-use Rattle.design.specs.Harder.{cut, Hardening, hardenings, BothPass, EasierPasses, AnyTwo, NeverEasier, _never-lessens_}
+use Rattle.design.specs.Harder.{cut, width, Hardening, hardenings, Sixteen, Seventeen, BothPass, EasierPasses, AnyTwo, NeverEasier, NeverEasierBut, _never-lessens_}
 use Rattle.design.specs.Starred.{writing, starredSheets, starredNumbers}
 use Rattle.design.specs.declared.Figures.{Figures}
 use Rattle.design.specs.declared.Reason.{Reason}
@@ -117,8 +117,8 @@ module _ (bytes table : List ℕ) (small : Bytes bytes) where
   no-depth-only = no-depth-said bytes table small
 
 -- Over one table, of two sheets with every field in range that differ in one of these figures and come to the same lanes, the one with the
--- greater figure is answered only where the other is, with a cut that is no shallower (draft, length, speed, wave allowance, silting rate, soil)
--- or a width that is no narrower (beam, wind, cross current, along current, wave height). Of two that both pass 18;
+-- greater figure is answered only where the other is, or has 16 or 17; and where both are answered its cut is no shallower (draft, length, speed, wave
+-- allowance, silting rate, soil) or its width no narrower (beam, wind, cross current, along current, wave height). Of two that both pass 18;
 pub never-easier : Each (NeverEasier BothPass) hardenings
 never-easier = the-harder.of-two-that-pass
 
@@ -132,7 +132,15 @@ never-easier-unless-longer = the-harder.any-but-longer
 
 -- Without a test of 18 the sentence of the length would be false: S with a beam of 40 m is refused at a length of 119.99 m, and answered at 120 m.
 pub longer-cures-18 : ¬ NeverEasier AnyTwo (3 never-lessens cut)
-longer-cures-18 = the-cure.longer-cures
+longer-cures-18 = the-cure.longer-cures-18
+
+-- Its sentence on refusals leaves 16 and 17 out, and with either left in that of the beam would be false: S with a slope of 4 is refused by 16 at a
+-- bed of 2 m and a beam of 10 m, by 17 at a bed of 1 m and a beam of 12 m, and each is answered with a beam that is 2 m greater.
+pub wider-cures-16 : ¬ NeverEasierBut Seventeen BothPass (4 never-lessens width)
+wider-cures-16 = the-cure.wider-cures-16
+
+pub wider-cures-17 : ¬ NeverEasierBut Sixteen BothPass (4 never-lessens width)
+wider-cures-17 = the-cure.wider-cures-17
 
 -- The numbers that turn a sheet away
 module _ (bytes table : List ℕ) (small : Bytes bytes) where

@@ -1,14 +1,11 @@
--- What the figures of an answered sheet are (sections 3 to 7), and which field a refusal names (section 8).
+-- What the figures of a sheet are (sections 3 to 7), and the section whose critical speed they ask for (section 13).
 use mathlib.Core.Path.{_≡_}
-use mathlib.Core.List.{List}
 use Prim.Native.Nat.{ℕ}
 use lib.IntN.{pos}
 use lib.ListN.{length}
 use Rattle.laws.specs.Extremes.{Least}
 use Rattle.datum.specs.Datum.{datumDepth}
 use Rattle.datum.specs.declared.Level.{Level}
-use Rattle.sheet.specs.Fields.{Bad}
-use Rattle.sheet.specs.Packing.{groupsOf}
 use Rattle.sheet.specs.declared.Sheet.{Sheet}
 use Rattle.depth.specs.Depth.{sailing, ownColumn, Meets}
 use Rattle.depth.specs.Worksheet.{tries}
@@ -16,11 +13,10 @@ use Rattle.depth.specs.declared.Stretch.{Stretch as DepthStretch}
 use Rattle.width.specs.Bands.{entriesOf}
 use Rattle.width.specs.Bends.{bendOf, wideningFigure}
 use Rattle.width.specs.Width.{widthFigure}
+use Rattle.speed.specs.declared.Section.{Section}
 use Rattle.class.specs.Classes.{shipClass, widthClass, depthClass}
-use Rattle.design.specs.Design.{depthStretch, widthStretch, lanesFor}
-use Rattle.design.specs.Refusals.{reasonNumber, reasonField}
+use Rattle.design.specs.Design.{depthStretch, widthStretch, speedSection, lanesFor}
 use Rattle.design.specs.declared.Figures.{Figures}
-use Rattle.design.specs.declared.Reason.{Reason}
 
 -- the stretch whose depth a sheet asks for at a level, in the lanes of the lane rule
 abbrev pub stretchOf : Sheet → Level → DepthStretch
@@ -51,6 +47,6 @@ pub record FiguresAre (s : Sheet) (design-level : Level) (f : Figures) : Type 0 
   pub width-class : f .classes .width ≡ widthClass (lanesFor s) (widthIn s f)
   pub depth-class : f .classes .depth ≡ depthClass (f .sailing)
 
--- where the number is 3, the field that is named is the first bad one
-abbrev pub NamesFirst : List ℕ → Reason → Type 0
-NamesFirst bytes r = reasonNumber r ≡ 3 → Least (Bad (groupsOf bytes)) (reasonField r)
+-- the section of a sheet at a level, by its figures
+abbrev pub sectionOf : Sheet → Level → Figures → Section
+sectionOf s level f = speedSection s level (widthIn s f) (f .cut)

@@ -35,9 +35,13 @@ use Rattle.width.specs.declared.Entries.{Entries}
 use Rattle.width.specs.declared.EntriesFound.{EntriesFound}
 use Rattle.width.specs.declared.EntriesFound.the-variants.{Entered, NoEntry}
 use Rattle.width.specs.declared.WidthFault.the-variants.{BendTooTight, NoWidthEntry}
+use Rattle.speed.specs.Critical.{checkOf}
+use Rattle.speed.specs.declared.Section.{Section}
+use Rattle.speed.specs.declared.SpeedCheck.{SpeedCheck}
+use Rattle.speed.specs.declared.SpeedCheck.the-variants.{Allowed, NotAllowed}
 use Rattle.class.specs.Classes.{classesOf}
 use Rattle.design.specs.declared.Figures.{Figures}
-use Rattle.design.specs.declared.Reason.the-variants.{NoSheet, NoShip, NoLevel, NoWidth, NoDepth}
+use Rattle.design.specs.declared.Reason.the-variants.{NoSheet, NoShip, NoLevel, NoWidth, NoDepth, NoSpeed}
 use Rattle.design.specs.declared.Answer.{Answer}
 use Rattle.design.specs.declared.Answer.the-variants.{Answered, Refused}
 
@@ -75,24 +79,41 @@ widthStretch s lanes sailing =
       sailing = sailing;
     }
 
+-- its width without widening, at its depth
+abbrev pub widthAt : Sheet → Lanes → Entries → DepthFigures → ℕ
+widthAt s lanes entries depth = widthOf (widthStretch s lanes (depth .sailing)) entries
+
+-- what its critical speed is worked from: its natural depth, its cut, and its width without widening
+abbrev pub speedSection : Sheet → Level → ℕ → BelowLevel → Section
+speedSection s level width cut = record { natural = naturalDepth (s .bed) level; cut = cut; width = width; slope = s .slope }
+
 -- the figures of a sheet: level, lanes, depth, width, widening and classes
-unfoldable pub figuresOf : Sheet → Level → Lanes → ℕ → Entries → DepthFigures → Figures
-figuresOf s level lanes widening entries depth =
+unfoldable pub figuresOf : Sheet → Level → Lanes → ℕ → ℕ → DepthFigures → Figures
+figuresOf s level lanes widening width depth =
     record {
       level = level;
       lanes = lanes;
       sailing = depth .sailing;
       cut = depth .cut;
       datum = datumDepth (depth .cut) level;
-      width = pos (widthOf (widthStretch s lanes (depth .sailing)) entries);
+      width = pos width;
       widening = pos widening;
       columns = depth .columns;
-      classes = classesOf (s .deadweight) (widthOf (widthStretch s lanes (depth .sailing)) entries) lanes (depth .sailing);
+      classes = classesOf (s .deadweight) width lanes (depth .sailing);
     }
+
+-- 16, 17: a speed that is not allowed, for the speed's own reason
+abbrev pub byCheck : Figures → SpeedCheck → Answer
+byCheck figures Allowed = Answered figures
+byCheck figures (NotAllowed fault) = Refused (NoSpeed fault)
+
+unfoldable pub pastDepth : Sheet → Level → Lanes → ℕ → ℕ → DepthFigures → Answer
+pastDepth s level lanes widening width depth =
+    byCheck (figuresOf s level lanes widening width depth) (checkOf (speedSection s level width (depth .cut)) (s .speed))
 
 -- 13, 14, 15: no depth, for the depth's own reason
 abbrev pub byDepth : Sheet → Level → Lanes → ℕ → Entries → Depth → Answer
-byDepth s level lanes widening entries (Cut depth) = Answered (figuresOf s level lanes widening entries depth)
+byDepth s level lanes widening entries (Cut depth) = pastDepth s level lanes widening (widthAt s lanes entries depth) depth
 byDepth s level lanes widening entries (NoCut fault) = Refused (NoDepth fault)
 
 unfoldable pub pastEntries : Sheet → Level → Lanes → ℕ → Entries → Answer

@@ -1,6 +1,6 @@
 -- Demand 3: which figures of a sheet, when greater, never make its design easier (section 0).
 use mathlib.Core.Path.{_≡_}
-use mathlib.Core.Logic.{_≢_}
+use mathlib.Core.Logic.{_≢_, _⊎_}
 use mathlib.Core.List.{List, [], _∷_}
 use Prim.Native.Nat.{ℕ, _≤_, _<_}
 use lib.IntN.{ℤ, pos}
@@ -10,7 +10,7 @@ use Rattle.sheet.specs.Packing.{groupsOf, Bytes}
 use Rattle.sheet.specs.Sheets.{readOf}
 use Rattle.sheet.specs.declared.SheetRead.the-variants.{Good}
 use Rattle.design.specs.Design.{lanesFor, designOf}
-use Rattle.design.specs.Refusals.{sheetIn, UnderThreeBeams}
+use Rattle.design.specs.Refusals.{sheetIn, UnderThreeBeams, reasonNumber}
 use Rattle.design.specs.declared.Figures.{Figures}
 use Rattle.design.specs.declared.Reason.{Reason}
 use Rattle.design.specs.declared.Answer.{Answer}
@@ -61,10 +61,21 @@ pub record Harder (k : ℕ) (easy hard : List ℕ) : Type 0 where
   pub else-equal : (j : ℕ) → 1 ≤ j → j ≤ count → j ≢ k → figureIn easy j ≡ figureIn hard j
   pub same-lanes : lanesFor (sheetIn easy) ≡ lanesFor (sheetIn hard)
 
--- the second design is no easier: refused, or answered where the first is, with a figure that is no less
-pub data NoEasier (figure : Figures → ℤ) : Answer → Answer → Type 0 where
-  no-less : {f g : Figures} → (figure f ≤ℤ figure g) → NoEasier figure (Answered f) (Answered g)
-  refused : {a : Answer} {r : Reason} → NoEasier figure a (Refused r)
+-- 16 and 17: a deeper or wider cut may raise the critical speed, or reach a filled part of its table
+abbrev pub Sixteen : Reason → Type 0
+Sixteen r = reasonNumber r ≡ 16
+
+abbrev pub Seventeen : Reason → Type 0
+Seventeen r = reasonNumber r ≡ 17
+
+abbrev pub BySpeed : Reason → Type 0
+BySpeed r = Sixteen r ⊎ Seventeen r
+
+-- the second design is no easier: refused, or answered where the first is, with a figure that is no less; refusals that are left out may be cured
+pub data NoEasier (LeftOut : Reason → Type 0) (figure : Figures → ℤ) : Answer → Answer → Type 0 where
+  no-less : {f g : Figures} → (figure f ≤ℤ figure g) → NoEasier LeftOut figure (Answered f) (Answered g)
+  refused : {a : Answer} {r : Reason} → NoEasier LeftOut figure a (Refused r)
+  cured : {r : Reason} {g : Figures} → LeftOut r → NoEasier LeftOut figure (Refused r) (Answered g)
 
 -- a sheet passes 18: its length is three beams or more
 abbrev pub Passes : List ℕ → Type 0
@@ -80,7 +91,11 @@ EasierPasses easy hard = Passes easy
 abbrev pub AnyTwo : List ℕ → List ℕ → Type 0
 AnyTwo easy hard = Unit {0}
 
--- of the sheets compared, a greater figure in the field never makes a design easier, over any one table
+-- of the sheets compared, a greater figure in the field never makes a design easier, over any one table, but for the refusals that are left out
+abbrev pub NeverEasierBut : (Reason → Type 0) → (List ℕ → List ℕ → Type 0) → Hardening → Type 0
+NeverEasierBut LeftOut Compared h = (easy hard table : List ℕ) → Bytes easy → Bytes hard → Harder (h .field) easy hard → Compared easy hard
+    → NoEasier LeftOut (h .kept) (designOf easy table) (designOf hard table)
+
+-- demand 3's sentence on refusals leaves 16 and 17 out
 abbrev pub NeverEasier : (List ℕ → List ℕ → Type 0) → Hardening → Type 0
-NeverEasier Compared h = (easy hard table : List ℕ) → Bytes easy → Bytes hard → Harder (h .field) easy hard → Compared easy hard
-    → NoEasier (h .kept) (designOf easy table) (designOf hard table)
+NeverEasier = NeverEasierBut BySpeed

@@ -29,6 +29,16 @@ starredSheets =
     ∷ alteredS 6000 4000 8 500 30 0 1 0 0 0  -- length 60 m, beam 40 m
     ∷ alteredS 11999 4000 8 500 30 0 1 0 0 0  -- length 119.99 m
     ∷ alteredS 12000 4000 8 500 30 0 1 0 0 0  -- length 120 m
+    ∷ alteredS 20000 3000 8 500 30 0 1 0 0 8  -- slope 8
+    ∷ alteredS 20000 3000 8 500 30 0 1 0 0 13  -- slope 13
+    ∷ alteredS 20000 3000 8 500 30 0 2 0 0 8  -- two lanes, slope 8
+    ∷ alteredS 20000 3000 8 1200 30 0 1 0 0 3  -- bed 1,200, slope 3
+    ∷ alteredS 20000 1200 8 100 30 0 1 0 0 4  -- beam 1,200, bed 100, slope 4
+    ∷ alteredS 20000 1400 8 100 30 0 1 0 0 4  -- beam 1,400
+    ∷ alteredS 20000 1200 8 200 30 0 1 0 0 4  -- beam 1,200, bed 200, slope 4
+    ∷ alteredS 20000 1000 8 200 30 0 1 0 0 4  -- beam 1,000
+    ∷ alteredS 6800 1250 9 320 30 0 1 0 0 4  -- at just nine tenths of the critical speed
+    ∷ alteredS 6800 1250 9 319 30 0 1 0 0 4  -- bed 319
     ∷ []
 
 -- code, field, level, lanes, s, cut, datum depth, width, widening, columns tried, three classes; the level given is 0
@@ -56,4 +66,14 @@ starredNumbers =
     ∷ refusal 18
     ∷ refusal 18
     ∷ answer 1 1150 1150 19200 0 2 0 0 1
+    ∷ answer 1 1170 1170 14400 0 2 0 0 1
+    ∷ refusal 16
+    ∷ refusal 16
+    ∷ answer 1 1155 1155 14400 0 1 0 0 1
+    ∷ refusal 17
+    ∷ answer 1 1180 1180 6720 0 2 0 3 1
+    ∷ answer 1 1180 1180 5760 0 2 0 3 1
+    ∷ refusal 16
+    ∷ answer 1 1152 1152 6000 0 2 0 3 1
+    ∷ refusal 17
     ∷ []

@@ -1,16 +1,18 @@
-// The checks of a sheet in their order: the ship, the level, the bend, the width's entries, the depth (definition, section 8).
+// The checks of a sheet in their order: the ship, the level, the bend, the width's entries, the depth, the speed (definition, section 8).
 ghost use mathlib.Core.Path.{_≡_};
 ghost use Prim.Native.Nat.{_<_, _^_};
-ghost use Rattle.design.specs.Design.{levelFor, pastEntries, pastBend, atLevel, ofSheet};
+ghost use Rattle.design.specs.Design.{levelFor, pastDepth, pastEntries, pastBend, atLevel, ofSheet};
 use crate::Answer;
 use crate::Reason;
 use crate::working;
 use datum::Level;
 use depth::Depth;
+use depth::DepthFigures;
 use gauge::LevelRead;
 use lanes::Lanes;
 use sheet::LevelSource;
 use sheet::Sheet;
+use speed::SpeedCheck;
 use width::Bend;
 use width::Entries;
 use width::EntriesFound;
@@ -70,14 +72,36 @@ fn past_entries(sheet: Sheet, level: Level, lanes: Lanes, widening: u32, entries
 {
     let depth = depth::work_depth(working::depth_stretch(sheet, level, lanes));
     match depth {
-        Depth::Cut(found) => Answer::Answered(working::figures_of(
+        Depth::Cut(found) => {
+            let width = working::width_at(sheet, lanes, entries, found);
+            past_depth(sheet, level, lanes, widening, width, found)
+        }
+        Depth::NoCut(fault) => Answer::Refused(Reason::NoDepth(fault)),
+    }
+}
+
+fn past_depth(
+    sheet: Sheet,
+    level: Level,
+    lanes: Lanes,
+    widening: u32,
+    width: u32,
+    depth: DepthFigures,
+) -> Answer
+    requires { ⌜ (widening < 2 ^ 31) × (width < 2 ^ 31) ⌝ }
+    ensures { λ r. ⌜ r ≡ pastDepth sheet level lanes widening width depth ⌝ }
+{
+    let section = working::section_of(sheet, level, width, depth);
+    let check = speed::check_speed(section, sheet.speed);
+    match check {
+        SpeedCheck::Allowed => Answer::Answered(working::figures_of(
             sheet,
             level,
             lanes,
             widening,
-            entries,
-            found,
+            width,
+            depth,
         )),
-        Depth::NoCut(fault) => Answer::Refused(Reason::NoDepth(fault)),
+        SpeedCheck::NotAllowed(fault) => Answer::Refused(Reason::NoSpeed(fault)),
     }
 }

@@ -13,6 +13,7 @@ use gauge::LevelRead;
 use lanes::Lanes;
 use sheet::ReadFault;
 use sheet::SheetRead;
+use speed::SpeedFault;
 use width::WidthFault;
 
 mod checks;
@@ -27,6 +28,7 @@ pub enum Reason {
     NoLevel(LevelFault),
     NoWidth(WidthFault),
     NoDepth(DepthFault),
+    NoSpeed(SpeedFault),
 }
 
 // The figures of a sheet that is answered, in cm.
@@ -60,6 +62,7 @@ fn reason_number(reason: Reason) -> u8
         Reason::NoLevel(fault) => gauge::level_fault_number(fault),
         Reason::NoWidth(fault) => width::width_fault_number(fault),
         Reason::NoDepth(fault) => depth::depth_fault_number(fault),
+        Reason::NoSpeed(fault) => speed::speed_fault_number(fault),
     }
 }
 
@@ -73,6 +76,7 @@ fn reason_field(reason: Reason) -> u8
         Reason::NoLevel(_) => 0,
         Reason::NoWidth(_) => 0,
         Reason::NoDepth(_) => 0,
+        Reason::NoSpeed(_) => 0,
     }
 }
 

@@ -1,14 +1,15 @@
-// What a sheet's depth and width are worked from, and the figures they come to (definition, section 8).
+// What a sheet's depth, width and speed are worked from, and the figures they come to (definition, section 8).
 ghost use mathlib.Core.Path.{_≡_};
 ghost use Prim.Native.Nat.{_<_, _^_};
 ghost use lib.IntN.{pos};
-ghost use Rattle.design.specs.Design.{depthStretch, widthStretch, figuresOf};
+ghost use Rattle.design.specs.Design.{depthStretch, widthStretch, widthAt, speedSection, figuresOf};
 use crate::Figures;
 use datum::BelowLevel;
 use datum::Level;
 use depth::DepthFigures;
 use lanes::Lanes;
 use sheet::Sheet;
+use speed::Section;
 use width::Entries;
 
 pub fn depth_stretch(sheet: Sheet, level: Level, lanes: Lanes) -> depth::Stretch
@@ -51,6 +52,30 @@ fn width_stretch(sheet: Sheet, lanes: Lanes, sailing: BelowLevel) -> width::Stre
     }
 }
 
+// The width of a sheet without widening, in its lanes, with its entries and its depth.
+pub fn width_at(sheet: Sheet, lanes: Lanes, entries: Entries, depth: DepthFigures) -> u32
+    ensures { λ r. ⌜ r ≡ widthAt sheet lanes entries depth ⌝ }
+    ensures small { λ r. ⌜ r < 2 ^ 31 ⌝ }
+{
+    let sailing = depth.sailing;
+    width::width_of(width_stretch(sheet, lanes, sailing), entries)
+}
+
+// The section of a sheet at its level, with its width and its depth.
+pub fn section_of(sheet: Sheet, level: Level, width: u32, depth: DepthFigures) -> Section
+    ensures { λ r. ⌜ r ≡ speedSection sheet level width (depth .cut) ⌝ }
+{
+    let bed = sheet.bed;
+    let cut = depth.cut;
+    let natural = datum::natural_depth(bed, level);
+    Section {
+        natural,
+        cut,
+        width,
+        slope: sheet.slope,
+    }
+}
+
 // A figure under 2 ^ 31, as a signed number.
 fn signed(figure: u32) -> i32
     requires { ⌜ figure < 2 ^ 31 ⌝ }
@@ -59,22 +84,21 @@ fn signed(figure: u32) -> i32
     figure as i32
 }
 
-// The figures of a sheet at its level, in its lanes, with the widening of its bend, the entries of its width and its depth.
+// The figures of a sheet at its level, in its lanes, with the widening of its bend, its width and its depth.
 pub fn figures_of(
     sheet: Sheet,
     level: Level,
     lanes: Lanes,
     widening: u32,
-    entries: Entries,
+    width: u32,
     depth: DepthFigures,
 ) -> Figures
-    requires { ⌜ widening < 2 ^ 31 ⌝ }
-    ensures { λ r. ⌜ r ≡ figuresOf sheet level lanes widening entries depth ⌝ }
+    requires { ⌜ (widening < 2 ^ 31) × (width < 2 ^ 31) ⌝ }
+    ensures { λ r. ⌜ r ≡ figuresOf sheet level lanes widening width depth ⌝ }
 {
     let cut = depth.cut;
     let sailing = depth.sailing;
     let datum = datum::datum_depth(cut, level);
-    let width = width::width_of(width_stretch(sheet, lanes, sailing), entries);
     let classes = class::classes_of(sheet.deadweight, width, lanes, sailing);
     Figures {
         level,

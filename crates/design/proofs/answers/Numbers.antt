@@ -16,11 +16,12 @@ use Rattle.sheet.specs.declared.ReadFault.the-variants.{WrongLength, SpareBitSe
 use Rattle.gauge.specs.declared.LevelFault.the-variants.{WrongTable, TooFewReadings, RangeTooWide}
 use Rattle.width.specs.declared.WidthFault.the-variants.{BendTooTight, NoWidthEntry}
 use Rattle.depth.specs.declared.DepthFault.the-variants.{NoSquatEntry, SiltOver, CutOver}
+use Rattle.speed.specs.declared.SpeedFault.the-variants.{PointMissing, TooFast}
 use Rattle.design.specs.Numbers.{codeOf, fieldOf, numberCount, numbersOf}
 use Rattle.design.specs.Refusals.{reasonNumber, reasonField, rows}
 use Rattle.design.specs.declared.Figures.{Figures}
 use Rattle.design.specs.declared.Reason.{Reason}
-use Rattle.design.specs.declared.Reason.the-variants.{NoSheet, NoShip, NoLevel, NoWidth, NoDepth}
+use Rattle.design.specs.declared.Reason.the-variants.{NoSheet, NoShip, NoLevel, NoWidth, NoDepth, NoSpeed}
 use Rattle.design.specs.declared.Answer.{Answer}
 use Rattle.design.specs.declared.Answer.the-variants.{Answered, Refused}
 
@@ -49,6 +50,8 @@ reason-present bytes table (NoWidth NoWidthEntry) = tt
 reason-present bytes table (NoDepth NoSquatEntry) = tt
 reason-present bytes table (NoDepth SiltOver) = tt
 reason-present bytes table (NoDepth CutOver) = tt
+reason-present bytes table (NoSpeed PointMissing) = tt
+reason-present bytes table (NoSpeed TooFast) = tt
 
 -- each row's number is held in 8 bits, and so is each reason's
 abbrev rowsTo : ℕ → List Row → Bool
@@ -74,7 +77,7 @@ module _ (bytes table : List ℕ) where
   code-never (Refused r) number some none e = present-other (reasonNumber r) number (rows bytes table) (reason-present bytes table r) none e
 
 -- the code is 0 exactly when the design is answered
-refused-some : (r : Reason) → reasonNumber r ≢ 0
+pub refused-some : (r : Reason) → reasonNumber r ≢ 0
 unfolding rows
 refused-some r e = present-other (reasonNumber r) 0 (rows [] []) (reason-present [] [] r) tt e
 
@@ -91,6 +94,7 @@ field-zero NoShip n = refl
 field-zero (NoLevel fault) n = refl
 field-zero (NoWidth fault) n = refl
 field-zero (NoDepth fault) n = refl
+field-zero (NoSpeed fault) n = refl
 
 pub field-unless : (a : Answer) → codeOf a ≢ 3 → fieldOf a ≡ 0
 field-unless (Answered f) n = refl
@@ -109,7 +113,9 @@ reasonFrom number field =
     (if number =ᵇ 7 then NoWidth BendTooTight else
     (if number =ᵇ 8 then NoWidth NoWidthEntry else
     (if number =ᵇ 13 then NoDepth NoSquatEntry else
-    (if number =ᵇ 14 then NoDepth SiltOver else NoDepth CutOver))))))))))
+    (if number =ᵇ 14 then NoDepth SiltOver else
+    (if number =ᵇ 15 then NoDepth CutOver else
+    (if number =ᵇ 16 then NoSpeed PointMissing else NoSpeed TooFast))))))))))))
 
 reason-back : (r : Reason) → reasonFrom (reasonNumber r) (reasonField r) ≡ r
 reason-back (NoSheet WrongLength) = refl
@@ -124,6 +130,8 @@ reason-back (NoWidth NoWidthEntry) = refl
 reason-back (NoDepth NoSquatEntry) = refl
 reason-back (NoDepth SiltOver) = refl
 reason-back (NoDepth CutOver) = refl
+reason-back (NoSpeed PointMissing) = refl
+reason-back (NoSpeed TooFast) = refl
 
 pub one-reason : (r t : Reason) → reasonNumber r ≡ reasonNumber t → reasonField r ≡ reasonField t → r ≡ t
 one-reason r t n f = sym (reason-back r) ∙ ap₂ reasonFrom n f ∙ reason-back t

@@ -7,13 +7,25 @@ use Rattle.lanes.specs.declared.Lanes.{Lanes}
 use Rattle.depth.specs.Worksheet.{workDepth}
 use Rattle.depth.specs.declared.Stretch.{Stretch as DepthStretch}
 use Rattle.depth.specs.declared.Depth.{Depth}
+use Rattle.depth.specs.declared.DepthFigures.{DepthFigures}
 use Rattle.width.specs.Bands.{entriesOf}
 use Rattle.width.specs.Bends.{bendOf}
 use Rattle.width.specs.declared.Bend.{Bend}
 use Rattle.width.specs.declared.Entries.{Entries}
 use Rattle.width.specs.declared.EntriesFound.{EntriesFound}
-use Rattle.design.specs.Design.{depthStretch, byDepth, pastEntries, byEntries, pastBend, byBend, lanesFor, atLevel}
+use Rattle.speed.specs.Critical.{checkOf}
+use Rattle.speed.specs.declared.Section.{Section}
+use Rattle.speed.specs.declared.SpeedCheck.{SpeedCheck}
+use Rattle.design.specs.Design.{depthStretch, speedSection, figuresOf, byCheck, pastDepth, byDepth, pastEntries, byEntries, pastBend, byBend, lanesFor, atLevel}
 use Rattle.design.specs.declared.Answer.{Answer}
+
+-- past the depth, by the speed
+pub by-check : (s : Sheet) (level : Level) (lanes : Lanes) (widening width : ℕ) (depth : DepthFigures) (found check : SpeedCheck) (section : Section) (r : Answer)
+    → check ≡ found → check ≡ checkOf section (s .speed) → section ≡ speedSection s level width (depth .cut)
+    → r ≡ byCheck (figuresOf s level lanes widening width depth) found → r ≡ pastDepth s level lanes widening width depth
+unfolding pastDepth
+by-check s level lanes widening width depth found check section r e is of g =
+    g ∙ ap (byCheck (figuresOf s level lanes widening width depth)) (sym e ∙ is ∙ ap (λ (q : Section). checkOf q (s .speed)) of)
 
 -- past the entries, by the depth
 pub by-depth : (s : Sheet) (level : Level) (lanes : Lanes) (widening : ℕ) (entries : Entries) (found worked : Depth) (stretch : DepthStretch) (r : Answer)

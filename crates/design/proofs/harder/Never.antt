@@ -13,7 +13,7 @@ use Rattle.laws.proofs.Each.{each-implied}
 use Rattle.sheet.specs.Sheets.{sheetOf}
 use Rattle.design.specs.Design.{designOf}
 use Rattle.design.specs.Harder.{cut, width, hardenings, Hardening, Harder, Passes, BothPass, EasierPasses, AnyTwo, NeverEasier, _never-lessens_}
-use Rattle.design.proofs.rows.Exactly.{design-ended}
+use Rattle.design.proofs.rows.Exactly.{design-ended, design-exactly}
 use Rattle.design.proofs.harder.Compared.{widens, hardens, compared}
 use Rattle.design.proofs.harder.Rows.{level-in-same, no-easier, cut-rises}
 use Rattle.design.proofs.harder.Widths.{width-rises}
@@ -38,7 +38,7 @@ deepens k is easy hard table small small' h shorter =
     let c = compared hardens k easy hard is h in
     no-easier easy hard table (h .easy-read) (h .same-lanes) c small (passes-too k is easy hard h shorter) cut
     (cut-rises easy hard table (h .easy-read) (h .same-lanes) c)
-    (designOf easy table) (designOf hard table) (design-ended easy table small) (design-ended hard table small')
+    (designOf easy table) (designOf hard table) (design-exactly easy table small) (design-ended easy table small) (design-ended hard table small')
 
 broadens : (k : ℕ) → widens k ≡ true → hardens k ≡ true → NeverEasier (ShorterPasses k) (k never-lessens width)
 broadens k is too easy hard table small small' h shorter =
@@ -46,7 +46,7 @@ broadens k is too easy hard table small small' h shorter =
     no-easier easy hard table (h .easy-read) (h .same-lanes) c small (passes-too k too easy hard h shorter) width
     (λ f g there are are'. width-rises easy hard table (h .same-lanes) (compared widens k easy hard is h)
     (level-in-same easy hard table (h .easy-read) (h .same-lanes) c) f g are are' there)
-    (designOf easy table) (designOf hard table) (design-ended easy table small) (design-ended hard table small')
+    (designOf easy table) (designOf hard table) (design-exactly easy table small) (design-ended easy table small) (design-ended hard table small')
 
 abbrev Shown : Hardening → Type 0
 Shown h = NeverEasier (ShorterPasses (h .field)) h

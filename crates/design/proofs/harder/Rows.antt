@@ -1,15 +1,16 @@
--- Each row that turns the easier of two sheets away turns the harder away, or leaves it without a depth, and what meets the harder one's depth meets the easier one's; so where
--- the harder is answered both are, and only their figures are left to compare.
+-- Each row before 16 that turns the easier of two sheets away turns the harder away, or leaves it without a depth, and what meets the harder one's depth
+-- meets the easier one's; so where the harder is answered the easier is, and only their figures are left to compare, or it has 16 or 17.
 use mathlib.Core.Path.{_≡_, refl, sym, ap, ap₂, subst}
 use mathlib.Core.List.{List}
-use mathlib.Core.Logic.{inl, inr}
-use Prim.Native.Nat.{ℕ, _≤_}
+use mathlib.Core.Logic.{_⊎_, inl, inr}
+use Prim.Native.Nat.{ℕ, zero, suc, _≤_}
 use native.Mathlib.Omega.{arith}
 use lib.IntN.{ℤ, pos}
 use lib.Dec.{le→leb}
 use lib.Signed.{_≤ℤ_}
 use Rattle.laws.specs.Each.{_&_}
-use Rattle.laws.proofs.Rows.{Carried, carried, none-held}
+use Rattle.laws.specs.Rows.{None, Exactly}
+use Rattle.laws.proofs.Rows.{from, before, Carried, carried, none-held, none-before, held-from, held-listed}
 use Rattle.laws.proofs.Extremes.{least-grows}
 use Rattle.datum.specs.Datum.{belowChart, naturalDepth}
 use Rattle.sheet.specs.Fields.{fields, fieldAt, least}
@@ -33,12 +34,15 @@ use Rattle.depth.proofs.Promises.{meets-the-easier, unusable-none}
 use Rattle.width.specs.Refusals.{TightBend, NoWidthEntry}
 use Rattle.width.proofs.Refusals.{tight-too, missing-too}
 use Rattle.design.specs.Design.{lanesFor}
-use Rattle.design.specs.Refusals.{sheetIn, levelIn, levelFrom, rows, BendTight, EntryMissing, OffRecord}
+use Rattle.design.specs.Refusals.{reasonNumber, sheetIn, levelIn, levelFrom, rows, BendTight, EntryMissing, OffRecord}
+use Rattle.design.specs.Numbers.{codeOf}
 use Rattle.design.specs.Answers.{stretchOf, FiguresAre}
-use Rattle.design.specs.Harder.{cut, Passes, NoEasier, no-less, refused as harder-refused}
+use Rattle.design.specs.Harder.{cut, Passes, BySpeed, NoEasier, no-less, refused as harder-refused, cured}
 use Rattle.design.specs.declared.Figures.{Figures}
+use Rattle.design.specs.declared.Reason.{Reason}
 use Rattle.design.specs.declared.Answer.{Answer}
 use Rattle.design.specs.declared.Answer.the-variants.{Answered, Refused}
+use Rattle.design.proofs.answers.Numbers.{refused-some}
 use Rattle.design.proofs.rows.Exactly.{Ended}
 use Rattle.design.proofs.harder.Compared.{hardens, Compared}
 
@@ -107,8 +111,8 @@ module _ (easy hard table : List ℕ) (read : readOf easy ≡ Good (sheetIn easy
 
   -- 18 is passed by the easier where it is by the harder
   module _ (small : Bytes easy) (ship : Passes hard → Passes easy) where
-    -- each row that turns the easier sheet away turns the harder away, or leaves it without a depth
-    rows-carried : (d : ℕ) → Meets (stretchOf s' (levelIn s' table)) d → Carried (rows easy table) (rows hard table)
+    -- each row before 16 that turns the easier sheet away turns the harder away, or leaves it without a depth
+    rows-carried : (d : ℕ) → Meets (stretchOf s' (levelIn s' table)) d → Carried (before 16 (rows easy table)) (before 16 (rows hard table))
     unfolding rows
     rows-carried d meets =
         let good = read-exactly easy small .else-answered .0 (ap readNumber read) in
@@ -126,19 +130,35 @@ module _ (easy hard table : List ℕ) (read : readOf easy ≡ Good (sheetIn easy
         & (λ h row. no-depth-too CutOver row d meets)
         & tt
 
-    -- so only the figures are left to compare
+    -- so the easier one is answered, or has 16 or 17
+    speed-left : (code : ℕ) → Exactly (rows easy table) code → None (before 16 (rows easy table)) → (code ≡ 0) ⊎ ((code ≡ 16) ⊎ (code ≡ 17))
+    unfolding rows
+    speed-left zero exact none = inl refl
+    speed-left (suc n) exact none =
+        go (held-listed (from 16 (rows easy table)) (suc n) (held-from 16 (rows easy table) none (suc n) (exact .number-given (suc n) (omega arith) .0 refl .0)))
+      where
+        go : (suc n ≡ 16) ⊎ ((suc n ≡ 17) ⊎ ⊥) → (suc n ≡ 0) ⊎ ((suc n ≡ 16) ⊎ (suc n ≡ 17))
+        go (inl e) = inr (inl e)
+        go (inr (inl e)) = inr (inr e)
+        go (inr (inr e)) = absurd e
+
+    by-speed : (r : Reason) → (reasonNumber r ≡ 0) ⊎ BySpeed r → BySpeed r
+    by-speed r (inl none) = absurd (refused-some r none)
+    by-speed r (inr left) = left
+
+    -- and only the figures are left to compare
     pub no-easier : (figure : Figures → ℤ)
         → ((f g : Figures) → ¬ EntryMissing s' → FiguresAre s (levelIn s table) f → FiguresAre s' (levelIn s' table) g → (figure f ≤ℤ figure g))
-        → (a b : Answer) → Ended easy table a → Ended hard table b → NoEasier figure a b
+        → (a b : Answer) → Exactly (rows easy table) (codeOf a) → Ended easy table a → Ended hard table b → NoEasier BySpeed figure a b
     unfolding rows
-    no-easier figure at-most a (Refused r) t u = harder-refused
-    no-easier figure at-most a (Answered g) t (inr u) = absurd (u .1)
-    no-easier figure at-most (Answered f) (Answered g) (inl t) (inl u) =
+    no-easier figure at-most a (Refused r) exact t u = harder-refused
+    no-easier figure at-most a (Answered g) exact t (inr u) = absurd (u .1)
+    no-easier figure at-most (Answered f) (Answered g) exact (inl t) (inl u) =
         no-less (at-most f g (none-held (rows hard table) (u .0) 8) (t .1) (u .1))
-    no-easier figure at-most (Answered f) (Answered g) (inr t) (inl u) = absurd (t .1)
-    no-easier figure at-most (Refused r) (Answered g) (inl t) (inl u) = absurd (t .1)
-    no-easier figure at-most (Refused r) (Answered g) (inr t) (inl u) =
-        absurd (t .0 (carried (rows easy table) (rows hard table) (rows-carried (g .cut .0) (u .1 .cut .holds)) (u .0)))
+    no-easier figure at-most (Answered f) (Answered g) exact (inr t) (inl u) = absurd (t .1)
+    no-easier figure at-most (Refused r) (Answered g) exact t (inl u) =
+        cured (by-speed r (speed-left (reasonNumber r) exact
+        (carried (before 16 (rows easy table)) (before 16 (rows hard table)) (rows-carried (g .cut .0) (u .1 .cut .holds)) (none-before 16 (rows hard table) (u .0)))))
 
   pub cut-rises : (f g : Figures) → ¬ EntryMissing s' → FiguresAre s (levelIn s table) f → FiguresAre s' (levelIn s' table) g → (cut f ≤ℤ cut g)
   cut-rises f g there are are' =

@@ -1,5 +1,5 @@
 -- The rows lead to the answer of a design: from the last room to the first, each tells of its own rows and hands on what it found.
-use mathlib.Core.Path.{_≡_, refl, sym, ap, subst⁻¹}
+use mathlib.Core.Path.{_≡_, refl, sym, ap, subst, subst⁻¹}
 use mathlib.Core.List.{List, []}
 use mathlib.Core.Logic.{_≢_}
 use Prim.Native.Nat.{ℕ, _*_}
@@ -32,6 +32,7 @@ use Rattle.depth.specs.declared.Depth.{Depth}
 use Rattle.depth.specs.declared.DepthFault.{DepthFault}
 use Rattle.depth.specs.declared.DepthFault.the-variants.{NoSquatEntry, SiltOver, CutOver}
 use Rattle.depth.specs.declared.Depth.the-variants.{NoCut}
+use Rattle.depth.specs.declared.DepthFigures.{DepthFigures}
 use Rattle.depth.proofs.Refusals.{Worked, depths, depth-told}
 use Rattle.width.specs.Bands.{entriesOf}
 use Rattle.width.specs.Bends.{bendOf}
@@ -43,15 +44,24 @@ use Rattle.width.specs.declared.EntriesFound.the-variants.{Entered, NoEntry}
 use Rattle.width.specs.declared.Bend.{Bend}
 use Rattle.width.specs.declared.Bend.the-variants.{TooTight}
 use Rattle.width.proofs.Refusals.{entering, entries-told, bends, bend-told}
+use Rattle.speed.specs.Critical.{checkOf}
+use Rattle.speed.specs.Refusals.{speedFaultNumber, checkNumber, speedRows}
+use Rattle.speed.specs.declared.Section.{Section}
+use Rattle.speed.specs.declared.SpeedFault.{SpeedFault}
+use Rattle.speed.specs.declared.SpeedFault.the-variants.{PointMissing, TooFast}
+use Rattle.speed.specs.declared.SpeedCheck.{SpeedCheck}
+use Rattle.speed.specs.declared.SpeedCheck.the-variants.{NotAllowed}
+use Rattle.speed.proofs.Refusals.{checks, check-told}
 use Rattle.class.specs.Classes.{widthClass}
-use Rattle.design.specs.Design.{widthStretch, figuresOf, byDepth, pastEntries, byEntries, pastBend, byBend, lanesFor, atLevel, byLevel, levelFor, ofSheet, byReading, designAt, designOf}
+use Rattle.design.specs.Design.{widthStretch, widthAt, speedSection, figuresOf, byCheck, pastDepth, byDepth, pastEntries, byEntries, pastBend, byBend, lanesFor, atLevel, byLevel, levelFor, ofSheet, byReading, designAt, designOf}
 use Rattle.design.specs.Numbers.{codeOf}
-use Rattle.design.specs.Refusals.{sheetIn, UnderThreeBeams, levelIn, offRecord, rows}
-use Rattle.design.specs.Answers.{stretchOf, wideningIn, FiguresAre, NamesFirst}
+use Rattle.design.specs.Refusals.{NamesFirst, sheetIn, UnderThreeBeams, levelIn, offRecord, rows}
+use Rattle.design.specs.Answers.{stretchOf, wideningIn, FiguresAre, sectionOf}
+use Rattle.design.specs.declared.Figures.{Figures}
 use Rattle.design.specs.declared.Reason.the-variants.{NoShip}
 use Rattle.design.specs.declared.Answer.{Answer}
 use Rattle.design.specs.declared.Answer.the-variants.{Answered, Refused}
-use Rattle.design.proofs.rows.Rooms.{levelsFrom, level-told}
+use Rattle.design.proofs.rows.Rooms.{levelsFrom, level-told, speed-told}
 
 -- what is told of a design: an answered one has the figures of its sheet at its level, a refused one names the first bad field
 abbrev pub Right : List ℕ → List ℕ → Answer → Type 0
@@ -91,7 +101,10 @@ module _ (bytes table : List ℕ) where
 
   -- past them all stand the figures
   module _ (entries : Entries) (entered : entriesFound ≡ Entered entries) where
-    figures-are : (d : Depth) (worked : Worked stretch d) → FiguresAre sheet level (figuresOf sheet level lanes (wideningIn sheet) entries (worked .figures))
+    abbrev figuresWith : DepthFigures → Figures
+    figuresWith depth = figuresOf sheet level lanes (wideningIn sheet) (widthAt sheet lanes entries depth) depth
+
+    figures-are : (d : Depth) (worked : Worked stretch d) → FiguresAre sheet level (figuresWith (worked .figures))
     unfolding figuresOf
     figures-are d worked =
         let w = widthStretch sheet lanes (worked .figures .sailing) in
@@ -109,6 +122,32 @@ module _ (bytes table : List ℕ) where
           depth-class = refl;
         }
 
+    -- 16, 17
+    speed-other : (fault : SpeedFault) → speedFaultNumber fault ≢ 3
+    speed-other PointMissing three = omega arith
+    speed-other TooFast three = omega arith
+
+    speed-handed : (f : Figures) (c : SpeedCheck) → (fault : SpeedFault) × (c ≡ NotAllowed fault) → Handed (checkNumber c) (byCheck f c)
+    speed-handed f c none = rw (none .1) (refl, λ three. absurd (speed-other (none .0) three))
+
+    section-is : (depth : DepthFigures) → speedSection sheet level (widthAt sheet lanes entries depth) (depth .cut) ≡ sectionOf sheet level (figuresWith depth)
+    unfolding figuresOf
+    section-is depth =
+        ap (λ (found : EntriesFound). speedSection sheet level (widthFigure (widthStretch sheet lanes (depth .sailing)) found) (depth .cut)) (sym entered)
+
+    past-depth-told : (d : Depth) (worked : Worked stretch d)
+        → From 16 (pastDepth sheet level lanes (wideningIn sheet) (widthAt sheet lanes entries (worked .figures)) (worked .figures))
+    unfolding pastDepth rows
+    past-depth-told d worked =
+        let f = figuresWith (worked .figures) in
+        let are = figures-are d worked in
+        let q = speedSection sheet level (widthAt sheet lanes entries (worked .figures)) (worked .figures .cut) in
+        onward checks (designs bytes table) (byCheck f) (speed-handed f) (from 16 (rows bytes table)) [] (checkOf q (sheet .speed))
+        (speed-told sheet level f are (checkOf q (sheet .speed))
+        (subst (λ (section : Section). Told checks (speedRows section (sheet .speed)) (checkOf q (sheet .speed))) (section-is (worked .figures))
+        (check-told q (sheet .speed))))
+        (λ allowed. subst⁻¹ (λ (c : SpeedCheck). Told (designs bytes table) [] (byCheck f c)) allowed (refl, are))
+
     -- 13, 14, 15
     abbrev atDepth : Depth → Answer
     atDepth = byDepth sheet level lanes (wideningIn sheet) entries
@@ -124,8 +163,8 @@ module _ (bytes table : List ℕ) where
     past-entries-told : From 13 (pastEntries sheet level lanes (wideningIn sheet) entries)
     unfolding pastEntries rows
     past-entries-told =
-        onward (depths stretch) (designs bytes table) atDepth depth-handed (depthRows stretch) [] (workDepth stretch) (depth-told stretch)
-        (λ worked. subst⁻¹ (λ (d : Depth). Told (designs bytes table) [] (atDepth d)) (worked .is) (refl, figures-are (workDepth stretch) worked))
+        onward (depths stretch) (designs bytes table) atDepth depth-handed (depthRows stretch) (from 16 (rows bytes table)) (workDepth stretch) (depth-told stretch)
+        (λ worked. subst⁻¹ (λ (d : Depth). From 16 (atDepth d)) (worked .is) (past-depth-told (workDepth stretch) worked))
 
   -- 8
   abbrev atEntries : EntriesFound → Answer

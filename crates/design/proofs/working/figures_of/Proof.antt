@@ -12,28 +12,11 @@ returns : tie.Need-returns
 unfolding figuresOf
 returns c =
     let classed = c .before .before in
-    let wide = classed .before in
     let across : toZ w32 (ofZ w32 (c .before .signed .result)) ≡ c .before .signed .result = toZ-ofZ (record { sfits = c .before .signed .ok }) in
     let aside : toZ w32 (ofZ w32 (c .signed2 .result)) ≡ c .signed2 .result = toZ-ofZ (record { sfits = c .signed2 .ok }) in
-    rw (
-      across,
-      aside,
-      c .before .signed .ensures,
-      c .signed2 .ensures,
-      classed .classes-of .ensures,
-      wide .width-of .ensures .0,
-      wide .before .width-stretch .ensures,
-      wide .before .before .datum-depth .ensures,
-    )
+    rw (across, aside, c .before .signed .ensures, c .signed2 .ensures, classed .classes-of .ensures, classed .before .datum-depth .ensures)
 
 pub figures-of-spec : {M : Type 1} → statement M
 figures-of-spec =
     tie.close
-    (tie.spec
-    (λ c κs. search needs)
-    (λ c κs. search needs)
-    (λ c κs. search needs)
-    (λ c κs. search needs)
-    (λ c κs. search needs)
-    (λ c κs. search needs)
-    returns)
+    (tie.spec (λ c κs. search needs) (λ c κs. search needs) (λ c κs. search needs) (λ c κs. search needs) returns)
