@@ -4,4 +4,5 @@ mod designs;
 mod gauges;
 mod places;
 mod sheets;
+mod speeds;
 mod widths;
