@@ -21,25 +21,25 @@ type Figures = [i64; FIELDS];
 /// The ore ship of examples 1 and 2.
 const E1: Figures = [
     200_000, 2_000, 30_000, 5_000, 10, 1_200, 0, 0, 0, 3, 1, 18_520, 100, 0, 1, 25, 11, 11, 99, 2,
-    0, 0, 0, 0, 0, 0, 1, 1_000,
+    0, 0, 0, 0, 0, 0, 1, 1_000, 0,
 ];
 
 /// The tanker of example 3, in two lanes.
 const TANKER: Figures = [
     60_000, 1_300, 23_600, 3_225, 10, 800, 0, 0, 0, 3, 2, 18_520, 2_400, 0, 1, 25, 0, 10, 0, 1, 0,
-    1, 0, 0, 0, 0, 1, 500,
+    1, 0, 0, 0, 0, 1, 500, 0,
 ];
 
 /// The ship of 10,000 t in the approach to the Ha Long cement works, example 4.
 const H1: Figures = [
     10_000, 820, 14_300, 1_920, 9, 297, 0, 0, 0, 3, 1, 2_500, 52, 1, 1, 30, 2, 16, 99, 2, 0, 1, 0,
-    0, 0, 0, 1, 775,
+    0, 0, 0, 1, 775, 0,
 ];
 
 /// The ship of 001's annex IV, silting 0.18 a year.
 const A4: Figures = [
     10_000, 800, 13_000, 1_800, 8, 300, 0, 19, 180, 2, 1, 18_000, 100, 0, 1, 0, 0, 0, 200, 0, 0, 0,
-    0, 0, 0, 0, 1, 500,
+    0, 0, 0, 0, 1, 500, 0,
 ];
 
 /// What makes example 2 of example 1, the other two ships of example 3 of its tanker, and two lanes of one.

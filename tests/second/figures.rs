@@ -12,7 +12,7 @@ use std::fmt::Debug;
 /// S, field by field.
 const S: [i64; FIELDS] = [
     40_000, 1_000, 20_000, 3_000, 8, 500, 0, 30, 0, 3, 1, 20_000, 2_400, 0, 0, 20, 10, 10, 150, 1,
-    0, 0, 0, 0, 0, 0, 1, 500,
+    0, 0, 0, 0, 0, 0, 1, 500, 0,
 ];
 
 const S_PRINTED: &str = "L 0 0 0\n1 0 0 0 1 1170 1170 1170 14400 0 2 0 0 1\nR 1 1 0\n";
@@ -212,16 +212,16 @@ fn bad_bytes(program: &impl Program, tally: &mut Tally) {
     let longer = [&s[..], &[0]].concat();
     let short = (code(&[]), code(&s[..27]), code(&longer));
     tally.check("1: 0, 27, 29 bytes", short, ((1, 0), (1, 0), (1, 0)));
-    let spare = (0..12).all(|place| {
+    let spare = (0..7).all(|place| {
         let mut bytes = sheet::pack(&s_with(&[(1, 0)]));
-        bytes[27 - place / 8] |= 1 << (place % 8);
+        bytes[27] |= 1 << place;
         code(&bytes) == (2, 0)
     });
     tally.check("2: each spare bit, before 3", spare, true);
     for number in 1..=FIELDS {
         for figure in random::one_past(number) {
-            // Field 28 last: the first bad field's number is given.
-            let bytes = sheet::pack(&s_with(&[(28, 2_001), (number, figure)]));
+            // Field 29 last: the first bad field's number is given.
+            let bytes = sheet::pack(&s_with(&[(29, 31), (number, figure)]));
             let what = format!("3: {} {figure}", sheet::TABLE[number - 1].name);
             tally.check(&what, code(&bytes), (3, number as i64));
         }
@@ -231,6 +231,21 @@ fn bad_bytes(program: &impl Program, tally: &mut Tally) {
     tally.check("3: radius alone", changed(&[(26, 1)]), (3, 26));
     tally.check("3: bad turn, no radius", changed(&[(25, 181)]), (3, 25));
     tally.check("3: record and figure", changed(&[(27, 0)]), (3, 28));
+    let both = changed(&[(27, 0), (29, 31)]);
+    tally.check("3: record and figure, slope 31", both, (3, 28));
+}
+
+/// "The first five spare bits become field 29": the last bits of byte 26, counted from 0, and the first of byte 27.
+fn slope_bits(program: &impl Program, tally: &mut Tally) {
+    for (slope, last) in [(1, [0x40, 0x80]), (2, [0x41, 0]), (30, [0x4f, 0])] {
+        let mut bytes = sheet::pack(&S);
+        bytes[26..].copy_from_slice(&last);
+        let read = program.read(&bytes).map(|sheet| sheet.slope());
+        tally.check("slope by its bits", read, Ok(slope));
+        let mut place = [7; 28];
+        let written = program.write(&s_with(&[(29, slope)]), None, &mut place);
+        tally.check("slope written", (written, place == bytes), (Ok(()), true));
+    }
 }
 
 /// Numbers 4, 5, 6, for source 0 only.
@@ -510,6 +525,7 @@ pub fn right_in(name: &str, program: &impl Program) -> bool {
     starred(program, &mut tally);
     lanes_and_levels(program, &mut tally);
     bad_bytes(program, &mut tally);
+    slope_bits(program, &mut tally);
     bad_tables(program, &mut tally);
     short_ships(program, &mut tally);
     bad_designs(program, &mut tally);

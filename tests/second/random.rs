@@ -332,7 +332,7 @@ pub fn damaged(rng: &mut Random) -> Vec<u8> {
         }
         1 => bytes = bytes_of_any_kind(rng, BYTES),
         2 => flip(&mut bytes, rng.below(8 * BYTES)),
-        3 => flip(&mut bytes, 8 * BYTES - 1 - rng.below(12)),
+        3 => flip(&mut bytes, 8 * BYTES - 1 - rng.below(7)),
         4 => bytes = with_one_past(rng),
         5 => bytes = with_broken_pair(rng),
         6 => bytes.truncate(rng.below(BYTES)),

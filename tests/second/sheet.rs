@@ -2,7 +2,7 @@
 
 /// A sheet's bytes, and its fields.
 pub const BYTES: usize = 28;
-pub const FIELDS: usize = 28;
+pub const FIELDS: usize = 29;
 
 /// A number that turns a call away, and the field (0 unless the number is 3).
 #[derive(Clone, Copy, Debug, PartialEq, Eq)]
@@ -63,9 +63,10 @@ pub const TABLE: [Field; FIELDS] = [
     field("radius m", 15, 0, 20_000),
     field("level source", 1, 0, 1),
     field("level plus 500 cm", 11, 0, 2_000),
+    field("side slope", 5, 0, 30),
 ];
 
-/// The 28 figures as they stand in the fields.
+/// The 29 figures as they stand in the fields.
 #[derive(Clone, Copy, Debug, PartialEq, Eq)]
 pub struct Sheet {
     pub figures: [i64; FIELDS],
@@ -83,7 +84,7 @@ figures_by_name! {
     1 deadweight 2 draft 3 length 4 beam 5 speed 6 natural_bed 7 soil 8 wave_allowance
     9 silting 10 interval 11 lanes 12 channel_length 13 ships 14 water 15 handling 16 wind
     17 cross 18 along 19 wave 20 aids 21 bed 22 cargo 23 left_bank 24 right_bank
-    25 turn 26 radius 27 source 28 level_plus_500
+    25 turn 26 radius 27 source 28 level_plus_500 29 slope
 }
 
 impl Sheet {
@@ -97,7 +98,7 @@ impl Sheet {
     }
 }
 
-/// Whether field `number` (1 to 28) is bad.
+/// Whether field `number` (1 to 29) is bad.
 fn is_bad(sheet: &Sheet, number: usize) -> bool {
     let row = &TABLE[number - 1];
     let figure = sheet.figures[number - 1];
@@ -142,7 +143,7 @@ pub fn read(bytes: &[u8]) -> Result<Sheet, Refusal> {
             position += 1;
         }
     }
-    // "Then 12 spare bits, zero."
+    // "Seven spare bits remain."
     if (position..8 * BYTES).any(|spare| bit(bytes, spare) == 1) {
         return Err(refusal(2));
     }
