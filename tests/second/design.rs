@@ -1,7 +1,7 @@
 //! A design, and the planning program's call.
 
 use super::sheet::{read, refusal, Refusal, Sheet};
-use super::{class, depth, gauge, width};
+use super::{class, depth, gauge, speed, width};
 
 /// "The answer is 0 or the number, the field (0 unless 3), and the figures, all 0 when
 /// refused", in the printed line's order.
@@ -64,7 +64,7 @@ pub fn under_three_beams(sheet: &Sheet) -> bool {
     sheet.length() < 3 * sheet.beam()
 }
 
-/// "A design checks 1, 2, 3, then 18, then 4 to 8, then the depth's 13, 14, 15."
+/// "A design checks 1, 2, 3, then 18, then 4 to 8, then the depth's 13, 14, 15", then 16 and 17.
 fn work(bytes: &[u8], record: Result<i32, u32>) -> Result<Answer, Refusal> {
     let sheet = read(bytes)?;
     if under_three_beams(&sheet) {
@@ -84,6 +84,17 @@ fn work(bytes: &[u8], record: Result<i32, u32>) -> Result<Answer, Refusal> {
     let column = depth::column_of(&inputs, cut);
     let s = depth::sailing_depth(&inputs, column).ok_or(refusal(13))?;
     let width = width::width(&sheet, lanes, s).map_err(refusal)?;
+    // "Bottom width is the width without widening; depth is the cut."
+    let section = speed::Section {
+        cut,
+        natural_depth: depth::natural_depth(&inputs),
+        width,
+        slope: sheet.slope(),
+    };
+    match speed::number(&section, sheet.speed()) {
+        0 => {}
+        number => return Err(refusal(number)),
+    }
     Ok(Answer {
         code: 0,
         field: 0,

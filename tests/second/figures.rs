@@ -6,6 +6,7 @@ use crate::second::design::{design, design_at, plan, Answer};
 use crate::second::gauge::{self, AddAnswer};
 use crate::second::random::{self, Random};
 use crate::second::sheet::{self, Refusal, Sheet, FIELDS};
+use crate::second::speed::{self, Section};
 use crate::second::{class, print, width};
 use std::fmt::Debug;
 
@@ -360,6 +361,112 @@ fn bad_designs(program: &impl Program, tally: &mut Tally) {
     tally.check("5 before 7", code(&on_record), 5);
 }
 
+/// The figures of the critical speed: 16, 17 and the answers of before.
+fn speeds(program: &impl Program, tally: &mut Tally) {
+    let same = |changes: &[(usize, i64)], slope| {
+        let sloped = [changes, &[(29, slope)]].concat();
+        answer(program, &sloped).numbers() == answer(program, changes).numbers()
+    };
+    let code = |changes: &[(usize, i64)]| answer(program, changes).code;
+    tally.check("S, slope 8: as before", same(&[], 8), true);
+    tally.check("S, slope 13: code", code(&[(29, 13)]), 16);
+    let not_dug = answer(program, &[(6, 1_200), (29, 3)]);
+    tally.check("S, bed 1,200, slope 3: cut", not_dug.cut, 1_155);
+    tally.check("the same: as before", same(&[(6, 1_200)], 3), true);
+    let narrow = |bed| answer(program, &[(4, 1_200), (6, bed), (29, 4)]);
+    let found = (narrow(100).code, narrow(200).code, narrow(200).cut);
+    tally.check("S, beam 1,200, slope 4", found, (17, 0, 1_180));
+    tally.check("S, two lanes, slope 8", code(&[(11, 2), (29, 8)]), 16);
+    // the natural depth is the bed's with the level
+    let level = |bed, plus_500| code(&[(4, 1_200), (6, bed), (28, plus_500), (29, 4)]);
+    let codes = [level(0, 600), level(0, 700), level(300, 300)];
+    tally.check("the same by the level", codes, [17, 0, 17]);
+    // 9 knots are 4.63 m/s, and the joined speed of the middle one is 463/90 m/s
+    let equal = [(3, 6_800), (4, 1_250), (5, 9), (29, 4)];
+    let beside = |bed| code(&[&equal[..], &[(6, bed)]].concat());
+    let codes = [319, 320, 321].map(beside);
+    tally.check("17: equal is allowed", codes, [17, 0, 0]);
+}
+
+/// 16 and 17 come last, and 16 before 17.
+fn speeds_in_order(program: &impl Program, tally: &mut Tally) {
+    let code = |changes: &[(usize, i64)]| {
+        let bytes = sheet::pack(&s_with(changes));
+        code_and_field(program, &bytes, &gauge::empty()).0
+    };
+    let sloped = |changes: &[(usize, i64)]| code(&[changes, &[(29, 13)]].concat());
+    let earlier: [(i64, &[(usize, i64)]); 7] = [
+        (18, &[(3, 6_000), (4, 4_000)]),
+        (5, &[(27, 0), (28, 0)]),
+        (7, &[(25, 30), (26, 999)]),
+        (8, &[(14, 1)]),
+        (13, &[(5, 12), (6, 600)]),
+        (14, &[(9, 67), (10, 5), (6, 670)]),
+        (15, &[(2, 2_500), (6, 3_000), (7, 3), (8, 231), (5, 9)]),
+    ];
+    for (number, changes) in earlier {
+        let what = format!("{number} before 16");
+        tally.check(&what, sloped(changes), number);
+    }
+    let fast = |slope| code(&[(4, 1_200), (6, 100), (29, slope)]);
+    let codes = [0, 3, 4, 13, 31].map(fast);
+    tally.check("slopes 0, 3, 4, 13, 31", codes, [0, 16, 17, 16, 3]);
+}
+
+/// A point of the table is needed exactly when it has a weight.
+fn needed_points(program: &impl Program, tally: &mut Tally) {
+    let code = |changes: &[&[(usize, i64)]]| answer(program, &changes.concat()).code;
+    // 250 m, slope 12 and a cut of 16 m, and past each
+    let last = [(2, 1_400), (4, 5_000), (8, 44), (15, 1), (29, 12)];
+    let with = |field, figure| code(&[&last, &[(field, figure)]]);
+    let corner = answer(program, &last);
+    let found = (corner.code, corner.cut, corner.width);
+    tally.check("the last lines", found, (0, 1_600, 25_000));
+    let past = (with(4, 5_001), with(8, 45), with(29, 13));
+    tally.check("16: past the last lines", past, (16, 16, 16));
+    // 50 m and slope 4, and before each
+    let first = [(4, 1_000), (15, 1), (29, 4)];
+    let with = |field, figure| code(&[&first, &[(field, figure)]]);
+    tally.check("the first lines", with(29, 4), 0);
+    let before = (with(4, 999), with(29, 3));
+    tally.check("16: before the first lines", before, (16, 16));
+    // the blank at 250 m, slope 12 and 7 m
+    let near = [(2, 700), (3, 15_000), (4, 5_000), (5, 7), (15, 1), (22, 1)];
+    let blank = |z2, slope| code(&[&near, &[(8, z2), (29, slope)]]);
+    let codes = [(8, 12), (9, 12), (8, 9), (8, 8)].map(|(z2, slope)| blank(z2, slope));
+    tally.check(
+        "16: a blank, and the lines beside it",
+        codes,
+        [16, 0, 16, 0],
+    );
+    // nothing is dug, and a centimetre
+    let dug = |bed, lanes| code(&[&[(6, bed), (11, lanes), (29, 30)]]);
+    let codes = [dug(1_155, 1), dug(1_154, 1), dug(1_300, 2)];
+    tally.check("no full section where nothing is dug", codes, [0, 16, 0]);
+    let shallow = |z2| code(&[&[(2, 1_400), (6, 3_000), (8, z2), (29, 30)]]);
+    let codes = (shallow(59), shallow(60));
+    tally.check("16: not dug, 16 m and past it", codes, (0, 16));
+    // with a part of the shallow row neither would be too fast
+    let all = |beam| code(&[&[(4, beam), (6, 0), (29, 4)]]);
+    let codes = (all(1_678), all(1_679));
+    tally.check("no shallow row where all is dug", codes, (17, 0));
+    // with the widening each would fall on the other side of a limit
+    let bend = |beam| code(&[&[(4, beam), (25, 30), (26, 1_500), (29, 8)]]);
+    let codes = (bend(1_000), bend(5_200));
+    tally.check("the width without widening", codes, (16, 0));
+}
+
+/// A greater figure can cure 16 and 17.
+fn cured_speeds(program: &impl Program, tally: &mut Tally) {
+    let code = |changes: &[(usize, i64)]| answer(program, changes).code;
+    let wider = |beam| code(&[(4, beam), (29, 8)]);
+    let codes = (wider(1_000), wider(1_200));
+    tally.check("a greater beam cures 16", codes, (16, 0));
+    let wider = |beam| code(&[(4, beam), (6, 100), (29, 4)]);
+    let codes = (wider(1_200), wider(1_500));
+    tally.check("a greater beam cures 17", codes, (17, 0));
+}
+
 /// Numbers 4, 10, 11 of adding; a refused addition changes no slot.
 fn adding(program: &impl Program, tally: &mut Tally) {
     let refused = AddAnswer::Refused;
@@ -425,6 +532,8 @@ fn planning(program: &impl Program, tally: &mut Tally) {
     tally.check("1: planned", program.plan(&s[..3], &mut place), 1);
     let short = sheet::pack(&s_with(&[(3, 6_000), (4, 4_000), (27, 0), (28, 0)]));
     tally.check("18 before 4", program.plan(&short, &mut place), 18);
+    let steep = sheet::pack(&s_with(&[(29, 13)]));
+    tally.check("16: planned", program.plan(&steep, &mut place), 16);
 }
 
 /// The printing program's other rules.
@@ -511,6 +620,52 @@ fn random_sheets(tally: &mut Tally) {
     tally.check("1, 2, 3 columns met", met, true);
 }
 
+/// A section at a point of the table's grid, in cm.
+fn at_point(width: i64, slope: i64, depth: i64, natural_depth: i64) -> Section {
+    Section {
+        cut: 100 * depth,
+        natural_depth,
+        width: 100 * width,
+        slope,
+    }
+}
+
+/// At a point of the table the joined speed is its figure, and where nothing is dug the shallow water's.
+fn speeds_at_points(tally: &mut Tally) {
+    let (mut full, mut shallow, mut filled) = (0, 0, 0);
+    for width in (0..=300).step_by(50) {
+        for slope in (0..=16).step_by(4) {
+            for depth in 1..=20 {
+                let whole = |figure: Option<i64>| figure.map(|figure| (i128::from(figure), 1));
+                let figure = whole(speed::full_at(width, slope, depth));
+                let dug = speed::joined(&at_point(width, slope, depth, 0));
+                full += usize::from(dug == figure);
+                filled += usize::from(figure.is_some());
+                let not_dug = speed::joined(&at_point(width, slope, depth, 100 * depth));
+                shallow += usize::from(not_dug == whole(speed::shallow_at(depth)));
+            }
+        }
+    }
+    tally.check("the speed at each point, all dug", full, 700);
+    tally.check("the speed at each point, not dug", shallow, 700);
+    tally.check("points that are filled", filled, 173);
+}
+
+/// The weights of the points add up to 1.
+fn weights_of_points(tally: &mut Tally) {
+    let mut rng = Random::new(2);
+    let whole = (0..RANDOM_SHEETS).filter(|_| {
+        let section = Section {
+            cut: rng.between(1, 2_000),
+            natural_depth: rng.between(0, 2_000),
+            width: rng.between(0, 40_000),
+            slope: rng.between(0, 30),
+        };
+        speed::whole_weight(&section) == (1, 1)
+    });
+    tally.check("weights add up to 1", whole.count(), RANDOM_SHEETS);
+}
+
 /// A figure that the second program's sheet can hold, and no other's.
 fn below_zero(tally: &mut Tally) {
     let mut place = [7; 60];
@@ -529,6 +684,10 @@ pub fn right_in(name: &str, program: &impl Program) -> bool {
     bad_tables(program, &mut tally);
     short_ships(program, &mut tally);
     bad_designs(program, &mut tally);
+    speeds(program, &mut tally);
+    speeds_in_order(program, &mut tally);
+    needed_points(program, &mut tally);
+    cured_speeds(program, &mut tally);
     adding(program, &mut tally);
     writing(program, &mut tally);
     planning(program, &mut tally);
@@ -542,6 +701,8 @@ pub fn all_right() -> bool {
     let right = right_in("figures", &Second);
     let mut tally = Tally::default();
     below_zero(&mut tally);
+    speeds_at_points(&mut tally);
+    weights_of_points(&mut tally);
     random_sheets(&mut tally);
     tally.end("the second program's claims") && right
 }

@@ -9,6 +9,7 @@ pub mod gauge;
 pub mod print;
 pub mod random;
 pub mod sheet;
+pub mod speed;
 pub mod width;
 
 /// "Rounded up", of a quotient that is not negative.
