@@ -13,7 +13,7 @@ const TABLES: usize = 60;
 const SHEETS: usize = 250;
 
 /// The codes that are each to be seen, of the sheets whose level is off the record.
-const CODES: [usize; 13] = [0, 1, 2, 3, 4, 5, 6, 7, 8, 13, 14, 15, 18];
+const CODES: [usize; 15] = [0, 1, 2, 3, 4, 5, 6, 7, 8, 13, 14, 15, 16, 17, 18];
 
 /// The serving program, the count, and how often each code was seen off the record and at a given level.
 struct Designs {

@@ -1,5 +1,6 @@
 //! Demand 3, of pairs of sheets that differ in one figure: the one with the greater figure is no easier to design, at given
-//! levels and over tables. A longer ship can cure 18, so two lengths are compared only where the shorter passes it.
+//! levels and over tables. A longer ship can cure 18, so two lengths are compared only where the shorter passes it. A deeper or
+//! wider cut can cure 16 and 17, so a sheet that one of them refuses may be answered with the greater figure.
 
 use crate::gauges::shown;
 use crate::handles::{Handle, Handles, NUMBERS};
@@ -50,13 +51,16 @@ struct Pair {
     kept: usize,
 }
 
-/// What a pair showed: both answered with a figure that rose, both with the same, refused for the harder alone, or both.
+/// What a pair showed: both answered with a figure that rose, both with the same, refused for the harder alone, both
+/// refused, or answered for the harder alone where the easier has 16 or 17.
 #[derive(Debug, Default)]
 struct Seen {
     rose: u64,
     stayed: u64,
     lost: u64,
     refused: u64,
+    cured_16: u64,
+    cured_17: u64,
 }
 
 type Numbers = [i64; NUMBERS];
@@ -137,6 +141,8 @@ impl Seen {
             (0, 0) if easy[kept] < hard[kept] => self.rose += 1,
             (0, 0) if easy[kept] == hard[kept] => self.stayed += 1,
             (0, 0) => return false,
+            (16, 0) => self.cured_16 += 1,
+            (17, 0) => self.cured_17 += 1,
             (_, 0) => return false,
             (0, _) => self.lost += 1,
             _ => self.refused += 1,
@@ -144,10 +150,11 @@ impl Seen {
         true
     }
 
-    /// Each kind of pair more than a hundred times.
+    /// Each kind of pair more than a hundred times, and each cure, which is rarer, more than three times.
     fn enough(&self) -> bool {
         let kinds = [self.rose, self.stayed, self.lost, self.refused];
-        kinds.iter().all(|&pairs| pairs > 100)
+        let cures = [self.cured_16, self.cured_17];
+        kinds.iter().all(|&pairs| pairs > 100) && cures.iter().all(|&pairs| pairs > 3)
     }
 }
 
@@ -168,11 +175,19 @@ fn judge_all(
     }
 }
 
+/// As often one whose speed is checked as one of any kind.
+fn some_sheet(rng: &mut Random) -> [i64; FIELDS] {
+    match rng.below(2) {
+        0 => random::checked_sheet(rng),
+        _ => random::valid_sheet(rng),
+    }
+}
+
 /// Sheets whose level is given, and some whose level is off a record that is not there.
 fn given_levels(handles: &mut Handles, report: &mut Report, rng: &mut Random) {
     let mut seen = Seen::default();
     for _ in 0..SHEETS {
-        let figures = random::valid_sheet(rng);
+        let figures = some_sheet(rng);
         let pairs = pairs_of(rng, &figures);
         let designs = planned(handles, &pairs);
         judge_all(report, &mut seen, &pairs, &designs, || "no table".into());
@@ -198,7 +213,7 @@ fn levels_off_tables(handles: &mut Handles, report: &mut Report, rng: &mut Rando
         let (table, record) = table_with(rng, number < TABLES);
         let mut pairs = Vec::new();
         for _ in 0..SHEETS_OVER {
-            let figures = random::off_record(&random::valid_sheet(rng), record);
+            let figures = random::off_record(&some_sheet(rng), record);
             pairs.extend(pairs_of(rng, &figures));
         }
         let designs = designed(handles, &table, &pairs);

@@ -612,9 +612,9 @@ fn random_sheets(tally: &mut Tally) {
     tally.check("random sheets read back", back, RANDOM_SHEETS);
     tally.check("worksheet's cut and s as tried", agree, RANDOM_SHEETS);
     println!("codes {codes:?}, columns tried {columns:?}");
-    let wanted = [0, 7, 8, 13, 14, 15, 18];
+    let wanted = [0, 7, 8, 13, 14, 15, 16, 17, 18];
     let met = wanted.iter().all(|&code| codes[code] > 0);
-    tally.check("0, 7, 8, 13, 14, 15, 18 met", met, true);
+    tally.check("0, 7, 8, 13 to 18 met", met, true);
     tally.check("9 never", codes[9], 0);
     let met = columns.iter().all(|&count| count > 0);
     tally.check("1, 2, 3 columns met", met, true);

@@ -2,6 +2,7 @@
 
 use super::depth::{self, Column, Inputs};
 use super::sheet::{self, Sheet, BYTES, FIELDS, TABLE};
+use super::speed::{self, Section};
 use super::{gauge, rounded_up, width};
 
 /// splitmix64.
@@ -177,6 +178,11 @@ fn natural_limit(inputs: &Inputs, column: Column, share: i64) -> i64 {
 fn near_column(rng: &mut Random, figures: &mut [i64; FIELDS]) {
     let (column, share) = rng.pick(&[(Column::A, 2), (Column::A, 5), (Column::B, 5)]);
     let natural = natural_limit(&inputs(figures), column, share) + rng.about();
+    set_natural(rng, figures, natural);
+}
+
+/// The bed, and with it a given level, of a natural depth.
+fn set_natural(rng: &mut Random, figures: &mut [i64; FIELDS], natural: i64) {
     let mut level = 0;
     if figures[26] == 1 {
         level = rng.between(-500, natural.clamp(0, 1_500));
@@ -220,19 +226,24 @@ fn near_s(rng: &mut Random, figures: &mut [i64; FIELDS]) {
     figures[7] = within(8, z2);
 }
 
-/// The beam about a limit of the width class.
-fn near_width(rng: &mut Random, figures: &mut [i64; FIELDS]) {
+/// The beam about that of a width.
+fn set_width(rng: &mut Random, figures: &mut [i64; FIELDS], cm: i64) {
     let sheet = Sheet { figures: *figures };
     let lanes = width::lanes(&sheet);
     let s = some_s(rng, &inputs(figures));
-    let limit = match lanes {
+    if let Ok(items) = width::items(&sheet, lanes, s) {
+        let beam = 10 * cm / width::tenths(&items, lanes);
+        figures[3] = within(4, beam + rng.about());
+    }
+}
+
+/// The beam about a limit of the width class.
+fn near_width(rng: &mut Random, figures: &mut [i64; FIELDS]) {
+    let limit = match width::lanes(&Sheet { figures: *figures }) {
         1 => rng.pick(&[5_000, 7_000, 9_000, 11_000]),
         _ => rng.pick(&[12_000, 16_000, 20_000, 24_000]),
     };
-    if let Ok(items) = width::items(&sheet, lanes, s) {
-        let beam = 10 * limit / width::tenths(&items, lanes);
-        figures[3] = within(4, beam + rng.about());
-    }
+    set_width(rng, figures, limit);
 }
 
 fn near_some_limit(rng: &mut Random, figures: &mut [i64; FIELDS]) {
@@ -247,12 +258,13 @@ fn near_some_limit(rng: &mut Random, figures: &mut [i64; FIELDS]) {
     }
 }
 
-/// Figures with no bad field.
-pub fn valid_sheet(rng: &mut Random) -> [i64; FIELDS] {
+/// Figures with no bad field, and no slope.
+fn unchecked_sheet(rng: &mut Random) -> [i64; FIELDS] {
     let mut figures = [0; FIELDS];
     for number in 1..=FIELDS {
         figures[number - 1] = figure(rng, number);
     }
+    figures[28] = 0;
     keep_pairs(rng, &mut figures);
     if rng.below(16) != 0 {
         keep_ship(&mut figures);
@@ -264,6 +276,117 @@ pub fn valid_sheet(rng: &mut Random) -> [i64; FIELDS] {
         near_some_limit(rng, &mut figures);
     }
     figures
+}
+
+/// Mostly a line of the critical speed's table, or between two; else any.
+fn some_slope(rng: &mut Random) -> i64 {
+    match rng.below(8) {
+        0 => rng.between(1, 30),
+        1..=3 => rng.between(3, 13),
+        _ => rng.pick(&[4, 8, 12]),
+    }
+}
+
+/// The section that the worksheet comes to; the tries of every cut would take too long here.
+fn section(figures: &[i64; FIELDS]) -> Option<Section> {
+    let sheet = Sheet { figures: *figures };
+    let inputs = inputs(figures);
+    let worksheet = depth::worksheet(&inputs);
+    let cut = worksheet.cut.ok()?;
+    let s = worksheet.tries.last()?.s;
+    Some(Section {
+        cut,
+        natural_depth: depth::natural_depth(&inputs),
+        width: width::width(&sheet, inputs.lanes, s).ok()?,
+        slope: sheet.slope(),
+    })
+}
+
+/// Figures whose section is mostly in the table, and a speed that is at times too great there.
+fn keep_to_table(rng: &mut Random, figures: &mut [i64; FIELDS]) {
+    calm(rng, figures);
+    figures[1] = rng.between(700, 1_150);
+    figures[4] = rng.pick(&[figures[4], 8, 9, 10, 10]);
+    figures[8] = rng.between(0, 100);
+    let natural = rng.between(0, 1_200);
+    set_natural(rng, figures, natural);
+    let widest = rng.pick(&[8_000, 12_000, 26_000]);
+    let width = rng.between(4_500, widest);
+    set_width(rng, figures, width);
+    figures[2] = figures[2].max(within(3, 3 * figures[3]));
+}
+
+/// The beam about a line of the table's widths, on and outside it.
+fn near_width_line(rng: &mut Random, figures: &mut [i64; FIELDS]) {
+    let line = rng.pick(&[5_000, 5_000, 10_000, 15_000, 20_000, 25_000, 25_000, 30_000]);
+    set_width(rng, figures, line);
+}
+
+/// The cut, by z2, about a whole metre.
+fn near_depth_line(rng: &mut Random, figures: &mut [i64; FIELDS]) {
+    if let Some(section) = section(figures) {
+        let below = section.cut % 100;
+        let up = rng.pick(&[-below, 100 - below]) + rng.about();
+        figures[7] = within(8, figures[7] + up);
+    }
+}
+
+/// The natural depth about the cut, so that little or nothing is dug, or at 0, so that all is.
+fn near_dug(rng: &mut Random, figures: &mut [i64; FIELDS]) {
+    if let Some(section) = section(figures) {
+        let natural = rng.pick(&[0, 1, section.cut, section.cut]) + rng.about();
+        set_natural(rng, figures, natural);
+    }
+}
+
+/// The natural depth about the least at which the speed is not too great, which is found by halving: it answers nothing.
+fn near_too_fast(rng: &mut Random, figures: &mut [i64; FIELDS]) {
+    let Some(section) = section(figures) else {
+        return;
+    };
+    let too_fast = |natural_depth| {
+        let tried = Section {
+            natural_depth,
+            ..section
+        };
+        speed::number(&tried, figures[4]) == 17
+    };
+    let (mut least, mut most) = (0, section.cut);
+    while least < most {
+        let middle = (least + most) / 2;
+        match too_fast(middle) {
+            true => least = middle + 1,
+            false => most = middle,
+        }
+    }
+    let natural = least + rng.about();
+    set_natural(rng, figures, natural);
+}
+
+/// Figures with no bad field, of a sheet whose speed is checked.
+pub fn checked_sheet(rng: &mut Random) -> [i64; FIELDS] {
+    let mut figures = unchecked_sheet(rng);
+    figures[28] = some_slope(rng);
+    if rng.below(8) != 0 {
+        keep_to_table(rng, &mut figures);
+    }
+    for _ in 0..rng.below(3) {
+        match rng.below(5) {
+            0 => near_width_line(rng, &mut figures),
+            1 => near_depth_line(rng, &mut figures),
+            2 => near_dug(rng, &mut figures),
+            _ => near_too_fast(rng, &mut figures),
+        }
+    }
+    figures
+}
+
+/// Figures with no bad field; one sheet in four has its speed checked.
+pub fn valid_sheet(rng: &mut Random) -> [i64; FIELDS] {
+    match rng.below(4) {
+        0 => checked_sheet(rng),
+        _ => unchecked_sheet(rng),
+    }
 }
 
 /// The figures with the level off the record. Over a record with a level the bed is moved, so that the natural depth
