@@ -1,5 +1,6 @@
 //! Makes the benchmark's inputs, the same on every machine: `inputs KIND COUNT` writes them to standard output.
-//! `valid` sheets have no bad field; `mixed` ones are damaged one time in four; `record` is a level file of made tides.
+//! `valid` sheets have no bad field, and one in four has a side slope; `mixed` ones are damaged one time in four; `record` is
+//! a level file of made tides.
 
 #[path = "../tests/second/second.rs"]
 mod second;
