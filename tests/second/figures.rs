@@ -424,6 +424,8 @@ fn needed_points(program: &impl Program, tally: &mut Tally) {
     tally.check("the last lines", found, (0, 1_600, 25_000));
     let past = (with(4, 5_001), with(8, 45), with(29, 13));
     tally.check("16: past the last lines", past, (16, 16, 16));
+    // s stays on the line, and the silt takes the cut past it
+    tally.check("16: the cut with its silt", with(9, 1), 16);
     // 50 m and slope 4, and before each
     let first = [(4, 1_000), (15, 1), (29, 4)];
     let with = |field, figure| code(&[&first, &[(field, figure)]]);
