@@ -18,6 +18,7 @@ pub enum Handle {
     MakeSheet,
     Designs,
     Classes,
+    Speed,
 }
 
 /// How many numbers a design has.

@@ -20,6 +20,7 @@ mod program;
 mod proved;
 mod report;
 mod sheets;
+mod speeds;
 mod widths;
 mod worked;
 
@@ -33,6 +34,7 @@ fn main() {
         "design-levels" => gauges::levels(),
         "depths" => depths::depths(),
         "widths" => widths::widths(),
+        "speeds" => speeds::speeds(),
         "worked-examples" => worked::worked(),
         "plans" => plans::plans(),
         "designs" => designs::designs(),

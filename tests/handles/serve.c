@@ -9,7 +9,7 @@
 
 typedef uint32_t call(const void *input, size_t count, void *place, size_t space);
 
-extern call trial_read, trial_write, trial_add, trial_level, trial_depth, trial_worksheet, trial_width, trial_bend, trial_make, trial_classes;
+extern call trial_read, trial_write, trial_add, trial_level, trial_depth, trial_worksheet, trial_width, trial_bend, trial_make, trial_classes, trial_speed;
 extern uint32_t trial_design(const uint8_t *sheet, size_t length, const uint32_t *table, size_t slots, int32_t *place, size_t space);
 
 /* A plan's part of the place: what the call returned, and the bytes that it is lent with bytes behind them. */
@@ -82,6 +82,7 @@ static const struct handle handles[] = {
     {trial_make, 4, 4},
     {designs, 1, 1},
     {trial_classes, 4, 4},
+    {trial_speed, 4, 4},
 };
 
 static int take(void *to, size_t count) { return fread(to, 1, count, stdin) == count; }
