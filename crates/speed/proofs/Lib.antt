@@ -1,3 +1,4 @@
 mod Meaning
+mod Ways
 pub mod Refusals
 pub mod Promises

@@ -1,6 +1,6 @@
 -- What the critical speed promises (sections 8 and 13), each cited from its proof. `shallowSpeed`, `fullSpeed`, `criticalSpeed`, `checkOf` and
 -- `speedFaultNumber` are what the calls of like names ensure.
-use mathlib.Core.Path.{_≡_}
+use mathlib.Core.Path.{_≡_, sym}
 use mathlib.Core.Logic.{_↔_, _≢_}
 use Prim.Native.Nat.{ℕ, _+_, _*_, _/_, _≤_, _<_}
 use native.Mathlib.Omega.{arith}
@@ -23,7 +23,8 @@ use Rattle.speed.proofs.lines.Straight.{straight-only, straight-between
 use Rattle.speed.proofs.lines.Orders.{any-order}
 use Rattle.speed.proofs.lines.Sums.{weights-add-up}
 use Rattle.speed.proofs.Meaning as the-speed
-use Rattle.speed.proofs.Refusals.{check-exactly, allowed-exactly, unasked}
+use Rattle.speed.proofs.Refusals.{check-exactly, allowed-exactly}
+use Rattle.speed.proofs.Ways.{unasked}
 
 -- The table
 -- Shallow water has a speed at each whole metre from 4 to 16, and never a lesser one at a greater depth.
@@ -107,7 +108,7 @@ number-16-17 = check-exactly
 
 -- A slope of 0 asks for no check.
 pub no-slope-no-check : (q : Section) (knots : ℕ) → q .slope ≡ 0 → checkOf q knots ≡ Allowed
-no-slope-no-check = unasked
+no-slope-no-check q knots none = sym (unasked q knots none)
 
 -- At a known speed a ship is allowed exactly when knots × 1,852 / 3,600 metres a second is at most nine tenths of it; equal is allowed.
 pub allowed-to-nine-tenths : (q : Section) (knots parts : ℕ) → q .slope ≢ 0 → criticalSpeed q ≡ Parts parts

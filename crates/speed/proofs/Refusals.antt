@@ -5,13 +5,13 @@ use mathlib.Core.List.{[]}
 use mathlib.Core.Logic.{_↔_, _≢_}
 use Prim.Native.Nat.{ℕ, _*_, _≤_}
 use native.Mathlib.Omega.{arith}
-use borrow.Author.Tests.{eqb-true, eqb-false, eq-eqb, ne-eqb, ltb-true, ltb-false}
+use borrow.Author.Tests.{eqb-true, eqb-false, ne-eqb, ltb-true, ltb-false}
 use Rattle.laws.specs.Choice.{if_then_else_, _<ᵇ_, _=ᵇ_}
 use Rattle.laws.specs.Rows.{Exactly, _when_}
 use Rattle.laws.proofs.Never.{never}
 use Rattle.laws.proofs.Rows.{Told, stop, past, Call, exactly, tested}
 use Rattle.speed.specs.Critical.{criticalSpeed, whole, against, bySpeed, checkOf}
-use Rattle.speed.specs.Refusals.{checkNumber, PointLacking, TooFast, speedRows}
+use Rattle.speed.specs.Refusals.{checkNumber, TooFast, speedRows}
 use Rattle.speed.specs.declared.Section.{Section}
 use Rattle.speed.specs.declared.Speed.{Speed}
 use Rattle.speed.specs.declared.Speed.the-variants.{Parts, Missing}
@@ -58,11 +58,6 @@ module _ (q : Section) (knots : ℕ) where
 
   pub check-exactly : Exactly (speedRows q knots) (checkNumber (checkOf q knots))
   check-exactly = exactly checks (speedRows q knots) tt (checkOf q knots) check-told
-
-  -- without a slope there is no check
-  pub unasked : q .slope ≡ 0 → checkOf q knots ≡ Allowed
-  unfolding checkOf
-  unasked none = rw (eq-eqb (q .slope) 0 none) refl
 
   -- at a known speed it is allowed exactly when its test does not hold
   pub allowed-exactly : (parts : ℕ) → q .slope ≢ 0 → criticalSpeed q ≡ Parts parts

@@ -13,7 +13,6 @@ use Rattle.laws.specs.Choice.{_=ᵇ_, _<ᵇ_, _≤ᵇ_}
 use Rattle.laws.specs.Every.{every}
 use Rattle.laws.specs.First.{firstFrom}
 use Rattle.laws.proofs.Every.{every-at}
-use Rattle.laws.proofs.Never.{never}
 use Rattle.sheet.specs.Bits.{starts, joined, cut as group}
 use Rattle.sheet.specs.CaseS.{alteredS}
 use Rattle.sheet.specs.Fields.{count, fields, nth, fieldAt, width as fieldWidth, least, greatest, pairBad, badAt, firstBad}

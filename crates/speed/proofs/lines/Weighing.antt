@@ -1,10 +1,10 @@
 -- Two speeds by their weights: how many parts they come to, when that is missing, and the most that it can be.
 use mathlib.Core.Path.{_≡_, refl, ap, ap₂, sym, _∙_}
-use mathlib.Core.Logic.{_⊎_, inl, inr, ⊎-map}
+use mathlib.Core.Logic.{_⊎_, inl, inr, ⊎-map, _≢_}
 use Prim.Native.Nat.{ℕ, zero, suc, _+_, _*_, _≤_, _<_}
 use native.Mathlib.Nat.{add-zero, zero-add, mul-le-mul-left}
 use native.Mathlib.Omega.{arith}
-use borrow.Author.Tests.{ne-eqb}
+use borrow.Author.Tests.{eq-eqb, ne-eqb}
 use Rattle.speed.specs.declared.Speed.{Speed}
 use Rattle.speed.specs.declared.Speed.the-variants.{Parts, Missing}
 use Rattle.speed.specs.Lines.{partsOf, times, part, together, weighed}
@@ -41,29 +41,29 @@ times-thrice a b c (Parts n) = ap Parts (omega arith)
 times-thrice a b c Missing = refl
 
 -- a speed without weight is no part, and one with weight that many times itself
-part-none : (x : Speed) → part 0 x ≡ Parts 0
+pub part-none : (a : ℕ) (x : Speed) → a ≡ 0 → part a x ≡ Parts 0
 unfolding part
-part-none x = refl
+part-none a x none = rw (eq-eqb a 0 none)
 
-part-some : (a : ℕ) (x : Speed) → 0 < a → part a x ≡ times a x
+pub part-some : (a : ℕ) (x : Speed) → a ≢ 0 → part a x ≡ times a x
 unfolding part
-part-some a x h = rw (ne-eqb a 0 (λ e. omega arith)) refl
+part-some a x some = rw (ne-eqb a 0 some)
 
 pub part-parts : (a : ℕ) (x : Speed) → partsOf (part a x) ≡ a * partsOf x
-part-parts zero x = ap partsOf (part-none x) ∙ omega arith
-part-parts (suc a) x = ap partsOf (part-some (suc a) x (omega arith)) ∙ times-parts (suc a) x
+part-parts zero x = ap partsOf (part-none 0 x refl) ∙ omega arith
+part-parts (suc a) x = ap partsOf (part-some (suc a) x (λ e. omega arith)) ∙ times-parts (suc a) x
 
 part-missing : (a : ℕ) (x : Speed) → part a x ≡ Missing → (0 < a) × (x ≡ Missing)
-part-missing zero x e = let z : _≡_ {A = ℕ} 0 1 = cc (part-none x) in absurd (omega arith)
-part-missing (suc a) (Parts n) e = let z : _≡_ {A = ℕ} 0 1 = cc (part-some (suc a) (Parts n) (omega arith)) in absurd (omega arith)
+part-missing zero x e = let z : _≡_ {A = ℕ} 0 1 = cc (part-none 0 x refl) in absurd (omega arith)
+part-missing (suc a) (Parts n) e = let z : _≡_ {A = ℕ} 0 1 = cc (part-some (suc a) (Parts n) (λ e. omega arith)) in absurd (omega arith)
 part-missing (suc a) Missing e = (omega arith, refl)
 
 part-same : (a : ℕ) (x y : Speed) → (0 < a → x ≡ y) → part a x ≡ part a y
-part-same zero x y same = part-none x ∙ sym (part-none y)
+part-same zero x y same = part-none 0 x refl ∙ sym (part-none 0 y refl)
 part-same (suc a) x y same = ap (part (suc a)) (same (omega arith))
 
 missing-part : (a : ℕ) (x : Speed) → 0 < a → x ≡ Missing → part a x ≡ Missing
-missing-part a x h e = part-some a x h ∙ ap (times a) e
+missing-part a x h e = part-some a x (λ e. omega arith) ∙ ap (times a) e
 
 -- two parts together
 together-known : (s t : Speed) (n : ℕ) → together s t ≡ Parts n → n ≡ partsOf s + partsOf t
@@ -138,11 +138,11 @@ weighed-same a x x' b y y' near far = ap₂ together (part-same a x x' near) (pa
 
 pub weighed-alone : (a : ℕ) (x y : Speed) → 0 < a → weighed a x 0 y ≡ times a x
 unfolding weighed
-weighed-alone a x y h = ap₂ together (part-some a x h) (part-none y) ∙ together-none (times a x)
+weighed-alone a x y h = ap₂ together (part-some a x (λ e. omega arith)) (part-none 0 y refl) ∙ together-none (times a x)
 
 pub weighed-next : (x : Speed) (b : ℕ) (y : Speed) → 0 < b → weighed 0 x b y ≡ times b y
 unfolding weighed
-weighed-next x b y h = ap₂ together (part-none x) (part-some b y h) ∙ none-together (times b y)
+weighed-next x b y h = ap₂ together (part-none 0 x refl) (part-some b y (λ e. omega arith)) ∙ none-together (times b y)
 
 -- two speeds are one where both or neither are missing, and their parts agree
 pub same-speed : (s t : Speed) → (s ≡ Missing → t ≡ Missing) → (t ≡ Missing → s ≡ Missing)

@@ -2,12 +2,13 @@
 use mathlib.Core.Path.{_≡_, refl}
 use mathlib.Core.Bool.{Bool, true, false, _||_, false≢true}
 use mathlib.Core.List.{List, []}
+use mathlib.Core.Logic.{_≢_}
 use Prim.Native.Nat.{ℕ, _+_, _-_, _*_, _≤_}
-use borrow.Author.Tests.{ltb-false}
+use borrow.Author.Tests.{ltb-false, eq-eqb, ne-eqb}
 use lib.ListN.{getD, replicate}
 use Rattle.laws.specs.Choice.{_<ᵇ_}
 use Rattle.speed.specs.Table.{dash, fullTable, outside, fullRow, entry, pointOf}
-use Rattle.speed.specs.declared.Speed.the-variants.{Missing}
+use Rattle.speed.specs.declared.Speed.the-variants.{Parts, Missing}
 
 -- the line is from the first to the last
 pub record Inside (line first last : ℕ) : Type 0 where
@@ -35,6 +36,15 @@ module _ (width slope : ℕ) where
   pub in-table : outside width 1 5 ≡ false → outside slope 1 3 ≡ false → getD fullTable (3 * (width - 1) + (slope - 1)) [] ≡ fullRow width slope
   unfolding fullRow
   in-table d e = rw (d, e)
+
+-- what stands in the table, as a speed
+pub at-dash : (figure : ℕ) → figure ≡ dash → Missing ≡ entry figure
+unfolding entry
+at-dash figure e = rw (eq-eqb figure dash e)
+
+pub at-figure : (figure : ℕ) → figure ≢ dash → Parts figure ≡ entry figure
+unfolding entry
+at-figure figure other = rw (ne-eqb figure dash other)
 
 -- the points of a row
 module _ (row : List ℕ) (metres : ℕ) where

@@ -1,9 +1,8 @@
 -- `speed::lines::times_of` meets its contract: by the speed's case.
-use Prim.Native.Nat.{_^_, _*_, _<_}
+use Prim.Native.Nat.{_^_, _<_}
 use native.Mathlib.Omega.{arith}
 use borrow.Author.Needs.{needs}
 use Rattle.laws.proofs.Products.{product-lt}
-use Rattle.speed.specs.Lines.{partsOf}
 use Rattle.speed.proofs.lines.times_of.Statement.{statement}
 use Rattle.speed.proofs.lines.times_of.Tie as tie
 

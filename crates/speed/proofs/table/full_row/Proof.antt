@@ -1,5 +1,5 @@
 -- `speed::table::full_row` meets its contract: the table is the definition's, and lines outside it are tested first.
-use mathlib.Core.Path.{_≡_, sym, _∙_}
+use mathlib.Core.Path.{sym, _∙_}
 use native.Mathlib.Omega.{arith}
 use borrow.Author.Needs.{needs}
 use Rattle.speed.proofs.table.Grid.{Inside, inside, no-width, no-slope, in-table}

@@ -1,5 +1,4 @@
 -- `speed::table::outside_of` meets its contract: by its two tests.
-use mathlib.Core.Path.{_∙_}
 use borrow.Author.Tests.{lt-ltb, le-ltb}
 use Rattle.speed.proofs.table.outside_of.Statement.{statement}
 use Rattle.speed.proofs.table.outside_of.Tie as tie
