@@ -80,6 +80,8 @@ enum channel_code {
     CHANNEL_NO_SQUAT_ENTRY = 13,    /* no depth: the first column that the worksheet cannot use has no squat entry, */
     CHANNEL_SILT_OVER = 14,         /* or silt over 120 cm, or all that is dug silts up before it is dredged again, */
     CHANNEL_CUT_OVER = 15,          /* or a cut over 30 m */
+    CHANNEL_SPEED_UNKNOWN = 16,     /* the critical speed needs a blank of its table, or a point outside it */
+    CHANNEL_TOO_FAST = 17,          /* over nine tenths of the critical speed */
     CHANNEL_UNDER_THREE_BEAMS = 18  /* the length is under three beams; tested straight after 3 */
 };
 

@@ -22,6 +22,8 @@ static const char *reason(uint32_t code) {
     case CHANNEL_NO_SQUAT_ENTRY: return "it is too fast for the squat table: slow the ship";
     case CHANNEL_SILT_OVER: return "its silt is over 120 cm, or fills all that is dug: dredge oftener";
     case CHANNEL_CUT_OVER: return "its cut is over 30 m";
+    case CHANNEL_SPEED_UNKNOWN: return "the table of critical speeds has no figure for its width, slope or depth";
+    case CHANNEL_TOO_FAST: return "it is too fast for its cut: slow the ship, or widen or deepen the cut";
     case CHANNEL_UNDER_THREE_BEAMS: return "its length is under three beams: have length and beam changed places?";
     default: return "no reason that this program knows";
     }
