@@ -1,5 +1,5 @@
--- Depth below the design level and depth below chart datum: the level alone leads from one to the other (sections 4.1 and 4.8).
-use Prim.Native.Nat.{ℕ, min}
+-- Depth below the design level and depth below chart datum: the level alone leads from one to the other (sections 4.1, 4.4 and 4.8).
+use Prim.Native.Nat.{ℕ, _-_, min}
 use lib.IntN.{ℤ, pos, negsuc, _+ℤ_, _-ℤ_}
 use Rattle.datum.specs.declared.Level.{Level}
 use Rattle.datum.specs.declared.BelowLevel.{BelowLevel}
@@ -28,6 +28,10 @@ deepest = 65535
 -- natural depth N = bed + level, or 0 if negative
 unfoldable pub naturalDepth : BelowChart → Level → BelowLevel
 naturalDepth bed level = below (min deepest (orZero (bed .0 +ℤ levelOf level)))
+
+-- h: what is dug of a depth d over the natural depth N, d - N, or 0 if negative
+abbrev pub dug : ℕ → ℕ → ℕ
+dug natural d = d - natural
 
 -- datum depth = cut - level, signed
 unfoldable pub datumDepth : BelowLevel → Level → BelowChart

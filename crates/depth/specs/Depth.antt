@@ -1,10 +1,11 @@
 -- Depth below the design level (sections 4.2 to 4.6), all in cm: what the cut is, with no method of finding it.
 use mathlib.Core.Path.{_≡_}
 use mathlib.Core.Logic.{_⊎_}
-use Prim.Native.Nat.{ℕ, _+_, _-_, _*_, _≤_, _<_}
+use Prim.Native.Nat.{ℕ, _+_, _*_, _≤_, _<_}
 use Rattle.laws.specs.Choice.{if_then_else_, _≤ᵇ_}
 use Rattle.laws.specs.Rounding.{up}
 use Rattle.laws.specs.Extremes.{Least}
+use Rattle.datum.specs.Datum.{dug}
 use Rattle.depth.specs.declared.Stretch.{Stretch}
 use Rattle.depth.specs.declared.Column.{Column}
 use Rattle.depth.specs.declared.Column.the-variants.{A, B, C}
@@ -34,10 +35,6 @@ z3 q c = squatOf (q .lanes) c (q .speed)
 -- N: the natural depth
 abbrev pub naturalOf : Stretch → ℕ
 naturalOf q = q .natural .0
-
--- h: what is dug of a depth d over the natural depth N, d - N, or 0 if negative
-abbrev pub dug : ℕ → ℕ → ℕ
-dug natural d = d - natural
 
 -- the column of a cut d of which h is dug: A when 10h ≤ 5d, B when 10h ≤ 8d, else C
 abbrev pub columnBy : ℕ → ℕ → Column

@@ -7,6 +7,7 @@ use lib.ListN.{length, take}
 use Rattle.laws.specs.Choice.{if_then_else_, _≤ᵇ_, _<ᵇ_, _=ᵇ_}
 use Rattle.laws.specs.Rounding.{up}
 use Rattle.datum.specs.Datum.{below}
+use Rattle.datum.specs.Datum.{dug}
 use Rattle.depth.specs.declared.Stretch.{Stretch}
 use Rattle.depth.specs.declared.Column.{Column}
 use Rattle.depth.specs.declared.Column.the-variants.{A}
@@ -19,7 +20,7 @@ use Rattle.depth.specs.declared.Worksheet.{Worksheet}
 use Rattle.depth.specs.declared.Depth.{Depth}
 use Rattle.depth.specs.declared.Depth.the-variants.{Cut, NoCut}
 use Rattle.depth.specs.Squat.{none, columnNumber}
-use Rattle.depth.specs.Depth.{z3, naturalOf, dug, filling, sailing, ownColumn}
+use Rattle.depth.specs.Depth.{z3, naturalOf, filling, sailing, ownColumn}
 
 -- a depth below the design level as the worksheet reckons it
 abbrev pub reckoned : ℕ → ReckonedDepth

@@ -5,11 +5,12 @@ use mathlib.Core.Logic.{⊎-elim}
 use Prim.Native.Nat.{ℕ, _+_, _-_, _*_, _/_, _≤_, _<_}
 use native.Mathlib.Nat.{mul-pos, mul-one, sub-zero, sub-self}
 use native.Mathlib.Omega.{arith}
+use Rattle.datum.specs.Datum.{dug}
 use Rattle.speed.specs.declared.Section.{Section}
 use Rattle.speed.specs.declared.Speed.the-variants.{Parts, Missing}
 use Rattle.speed.specs.Lines.{partsOf, times}
 use Rattle.speed.specs.Table.{shallowPoint, fullPoint}
-use Rattle.speed.specs.Critical.{shallowSpeed, fullSpeed, dug, criticalSpeed, whole}
+use Rattle.speed.specs.Critical.{shallowSpeed, fullSpeed, criticalSpeed, whole}
 use Rattle.speed.specs.Weights.{weight, shallowWeight, fullWeight, Lacking, of-shallow, of-full, sum}
 use Rattle.speed.proofs.lines.Weighing.{product-most, times-from, times-missing, times-thrice, weighed-from, weighed-missing, weighed-alone, weighed-next, near-missing, far-missing}
 use Rattle.speed.proofs.lines.Straight.{line, straight-missing, missing-straight, straight-known, line-between, at-line}

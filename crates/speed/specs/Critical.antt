@@ -2,6 +2,7 @@
 use Prim.Native.Nat.{ℕ, _-_, _*_}
 use mathlib.Core.List.{List}
 use Rattle.laws.specs.Choice.{if_then_else_, _<ᵇ_, _=ᵇ_}
+use Rattle.datum.specs.Datum.{dug}
 use Rattle.speed.specs.declared.Section.{Section}
 use Rattle.speed.specs.declared.Speed.{Speed}
 use Rattle.speed.specs.declared.Speed.the-variants.{Parts, Missing}
@@ -26,11 +27,7 @@ slopeSpeed line slope depth = straight 4 slope (λ m. rowSpeed (fullRow line m) 
 abbrev pub fullSpeed : ℕ → ℕ → ℕ → Speed
 fullSpeed width slope depth = straight 5000 width (λ line. slopeSpeed line slope depth)
 
--- h: what is dug of a cut, cut - N, or 0 if negative
-abbrev pub dug : ℕ → ℕ → ℕ
-dug natural cut = cut - natural
-
--- formula (2): (V' × (cut - h) + V'' × h) / cut, in parts of 5,000 × 4 × 100 × cut
+-- formula (2): (V' × (cut - h) + V'' × h) / cut, where h is dug, in parts of 5,000 × 4 × 100 × cut
 unfoldable pub criticalSpeed : Section → Speed
 criticalSpeed q =
     weighed (q .cut .0 - dug (q .natural .0) (q .cut .0)) (times 20000 (shallowSpeed (q .cut .0)))

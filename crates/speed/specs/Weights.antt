@@ -1,9 +1,9 @@
 -- The weight of a point of the table in the critical speed (section 13.3): which points are needed.
 use mathlib.Core.Path.{_≡_}
 use Prim.Native.Nat.{ℕ, zero, suc, _+_, _-_, _*_, _<_}
+use Rattle.datum.specs.Datum.{dug}
 use Rattle.speed.specs.declared.Section.{Section}
 use Rattle.speed.specs.declared.Speed.the-variants.{Missing}
-use Rattle.speed.specs.Critical.{dug}
 use Rattle.speed.specs.Table.{shallowPoint, fullPoint}
 
 -- the weight of line k of a grid at x: the step less the distance of x from the line, or 0 if negative

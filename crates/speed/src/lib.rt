@@ -1,8 +1,9 @@
 // The critical speed of a stretch, and whether its ship keeps to nine tenths of it (definition, section 13).
 ghost use mathlib.Core.Path.{_≡_};
 ghost use Prim.Native.Nat.{_-_, _^_, _≤_, _<_};
+ghost use Rattle.datum.specs.Datum.{dug};
 ghost use Rattle.speed.specs.Lines.{partsOf};
-ghost use Rattle.speed.specs.Critical.{dug, shallowSpeed, fullSpeed, criticalSpeed, against, checkOf};
+ghost use Rattle.speed.specs.Critical.{shallowSpeed, fullSpeed, criticalSpeed, against, checkOf};
 ghost use Rattle.speed.specs.Refusals.{speedFaultNumber};
 use datum::BelowLevel;
 
