@@ -461,11 +461,11 @@ fn needed_points(program: &impl Program, tally: &mut Tally) {
 /// A greater figure can cure 16 and 17.
 fn cured_speeds(program: &impl Program, tally: &mut Tally) {
     let code = |changes: &[(usize, i64)]| answer(program, changes).code;
-    let wider = |beam| code(&[(4, beam), (29, 8)]);
+    let wider = |beam| code(&[(4, beam), (6, 200), (29, 4)]);
     let codes = (wider(1_000), wider(1_200));
     tally.check("a greater beam cures 16", codes, (16, 0));
     let wider = |beam| code(&[(4, beam), (6, 100), (29, 4)]);
-    let codes = (wider(1_200), wider(1_500));
+    let codes = (wider(1_200), wider(1_400));
     tally.check("a greater beam cures 17", codes, (17, 0));
 }
 

@@ -27,16 +27,18 @@ slopeSpeed line slope depth = straight 4 slope (λ m. rowSpeed (fullRow line m) 
 abbrev pub fullSpeed : ℕ → ℕ → ℕ → Speed
 fullSpeed width slope depth = straight 5000 width (λ line. slopeSpeed line slope depth)
 
--- formula (2): (V' × (cut - h) + V'' × h) / cut, where h is dug, in parts of 5,000 × 4 × 100 × cut
+-- formula (2): (V' × (cut - h) + V'' × h) / cut, where h is dug, in parts of 5,000 × 4 × 100 × cut; V' is in hundredths, so it counts 5,000 × 4 times
 unfoldable pub criticalSpeed : Section → Speed
 criticalSpeed q =
     weighed (q .cut .0 - dug (q .natural .0) (q .cut .0)) (times 20000 (shallowSpeed (q .cut .0)))
     (dug (q .natural .0) (q .cut .0)) (fullSpeed (q .width) (q .slope) (q .cut .0))
 
+-- the whole: 5,000 × 4 × 100 × cut
 abbrev pub whole : ℕ → ℕ
 whole cut = 2000000 * cut
 
--- knots × 1,852 / 3,600 metres a second against nine tenths of so many parts of the whole, in tenths of a metre a second; equal is allowed
+-- knots × 1,852 / 3,600 metres a second against nine tenths of so many parts of the whole, in tenths of a metre a second; equal is allowed.
+-- Both sides stand times 100 × 3,600 × the whole.
 unfoldable pub against : ℕ → ℕ → ℕ → SpeedCheck
 against parts cut knots = if 9 * parts * 3600 <ᵇ 100 * (knots * 1852) * whole cut then NotAllowed TooFastFault else Allowed
 

@@ -77,7 +77,7 @@ fn dug_of(natural: BelowLevel, cut: BelowLevel) -> u16
     cut.0 - natural.0
 }
 
-// The joined speed (V' × (cut - h) + V'' × h) / cut, in parts of 5,000 × 4 × 100 × cut.
+// The joined speed (V' × (cut - h) + V'' × h) / cut, in parts of 5,000 × 4 × 100 × cut; V' comes in hundredths, and goes into it 5,000 × 4 times.
 pub fn critical_speed(section: Section) -> Speed
     ensures { λ r. ⌜ r ≡ criticalSpeed section ⌝ }
     ensures small { λ r. ⌜ partsOf r < 2 ^ 46 ⌝ }
@@ -90,7 +90,8 @@ pub fn critical_speed(section: Section) -> Speed
     lines::weighed_of((cut.0 - dug) as u64, shallow, dug as u64, full)
 }
 
-// Knots × 1,852 / 3,600 metres a second may be nine tenths of the speed, and no more.
+// Knots × 1,852 / 3,600 metres a second may be nine tenths of the speed, and no more. Both sides stand times 100 × 3,600 × the whole, as
+// the parts are tenths of a metre a second.
 fn against_of(parts: u64, cut: u16, knots: u8) -> SpeedCheck
     requires { ⌜ parts < 2 ^ 46 ⌝ }
     ensures { λ r. ⌜ r ≡ against parts cut knots ⌝ }
