@@ -1,14 +1,11 @@
--- There is one least number and one greatest.
+-- There is one least number, and it grows with its rule.
 use mathlib.Core.Path.{_≡_}
 use Prim.Native.Nat.{ℕ, _≤_}
 use native.Mathlib.Omega.{arith}
-use Rattle.laws.specs.Extremes.{Least, Greatest}
+use Rattle.laws.specs.Extremes.{Least}
 
 pub least-only : (P : ℕ → Type 0) (m n : ℕ) → Least P m → Least P n → m ≡ n
 least-only P m n a b = omega (arith, a .least n (b .holds), b .least m (a .holds))
-
-pub greatest-only : (P : ℕ → Type 0) (m n : ℕ) → Greatest P m → Greatest P n → m ≡ n
-greatest-only P m n a b = omega (arith, a .greatest n (b .holds), b .greatest m (a .holds))
 
 -- where whatever meets the harder rule meets the easier, the least number only grows
 pub least-grows : (P Q : ℕ → Type 0) (m n : ℕ) → ((k : ℕ) → Q k → P k) → Least P m → Least Q n → m ≤ n

@@ -2,7 +2,7 @@
 use mathlib.Core.Path.{_≡_, refl, ap, sym, _∙_}
 use mathlib.Core.Bool.{Bool, true, false}
 use mathlib.Core.Logic.{_↔_}
-use Prim.Native.Nat.{ℕ, zero, suc, _+_, _<_, _≤_}
+use Prim.Native.Nat.{ℕ, zero, suc, _+_, _<_}
 use native.Mathlib.Nat.{not-suc-le-zero, le-of-suc-le-suc, add-suc, suc-add, add-zero, zero-add}
 use native.Mathlib.Omega.{arith}
 use Rattle.laws.specs.Choice.{if_then_else_}
@@ -90,13 +90,6 @@ module _ (test : ℕ → Bool) (n : ℕ) where
       go : (r : ℕ) → r ≡ 0 → Told test 0 n r → test j ≡ false
       go r e (found m h q here none) = absurd (omega arith)
       go r e (nowhere q none) = ap test (sym (zero-add j)) ∙ none j l
-
-  pub first-within : firstOf test n ≤ n
-  first-within = go (firstOf test n) (tell test 0 n)
-    where
-      go : (r : ℕ) → Told test 0 n r → r ≤ n
-      go r (found m l q here none) = omega arith
-      go r (nowhere q none) = omega arith
 
   -- the search answers k + 1 exactly when k is the first place, and 0 exactly when there is none
   pub first-exactly : (k : ℕ) → (firstOf test n ≡ k + 1) ↔ FirstAt test n k

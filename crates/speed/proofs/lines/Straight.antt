@@ -1,5 +1,5 @@
 -- A straight line over a grid: the weights of the two lines beside x, which lines are needed, and what the drawn line comes to.
-use mathlib.Core.Path.{_≡_, refl, ap, ap₂, sym, _∙_}
+use mathlib.Core.Path.{_≡_, refl, ap, sym, _∙_}
 use mathlib.Core.Logic.{_⊎_, inl, inr, _≢_, ⊎-elim}
 use mathlib.Core.Bool.{Bool, true, false}
 use Prim.Native.Nat.{ℕ, _+_, _-_, _*_, _/_, _%_, _≤_, _<_}
@@ -11,7 +11,7 @@ use Rattle.speed.specs.declared.Speed.{Speed}
 use Rattle.speed.specs.declared.Speed.the-variants.{Parts, Missing}
 use Rattle.speed.specs.Lines.{partsOf, times, straight}
 use Rattle.speed.specs.Weights.{weight}
-use Rattle.speed.proofs.lines.Weighing.{known-unless, product-same, product-most, weighed-known, weighed-from, weighed-missing, near-missing, far-missing, weighed-same, weighed-alone}
+use Rattle.speed.proofs.lines.Weighing.{product-most, weighed-known, weighed-from, weighed-missing, near-missing, far-missing, weighed-same, weighed-alone}
 
 -- the straight line between the numbers at two neighbouring lines of a grid, times its step
 abbrev pub line : ℕ → ℕ → (ℕ → ℕ) → ℕ
@@ -58,10 +58,6 @@ module _ (step x : ℕ) (some : 0 < step) where
   pub next-needed : 0 < x % step → 0 < weight step x (x / step + 1)
   next-needed h = rw weight-next h
 
-  pub line-same : (f g : ℕ → ℕ) → ((k : ℕ) → 0 < weight step x k → f k ≡ g k) → line step x f ≡ line step x g
-  line-same f g same =
-      ap₂ _+_ (product-same _ _ _ (λ h. same (x / step) near-needed)) (product-same _ _ _ (λ h. same (x / step + 1) (next-needed h)))
-
   module _ (f : ℕ → Speed) where
     pub straight-missing : straight step x f ≡ Missing → (k : ℕ) × ((0 < weight step x k) × (f k ≡ Missing))
     unfolding straight
@@ -75,9 +71,6 @@ module _ (step x : ℕ) (some : 0 < step) where
         ⊎-elim (λ near. near-missing _ _ _ _ (omega (arith, mod-lt x some)) (rw near at e))
         (λ next. far-missing _ _ _ _ (next .1) (rw (next .0) at e))
         (needed-line k h)
-
-    pub needed-known : (n : ℕ) → straight step x f ≡ Parts n → (k : ℕ) → 0 < weight step x k → (m : ℕ) × (f k ≡ Parts m)
-    needed-known n e k h = known-unless (f k) (λ gone. cc (missing-straight k h gone))
 
     pub straight-known : (n : ℕ) → straight step x f ≡ Parts n → n ≡ line step x (λ k. partsOf (f k))
     unfolding straight

@@ -10,12 +10,12 @@ use Rattle.speed.specs.declared.Speed.the-variants.{Parts, Missing}
 use Rattle.speed.specs.Lines.{partsOf, times, part, together, weighed}
 
 -- a speed is known, unless that it is missing were absurd
-pub known-unless : (s : Speed) → (s ≡ Missing → _≡_ {A = ℕ} 0 1) → (m : ℕ) × (s ≡ Parts m)
+known-unless : (s : Speed) → (s ≡ Missing → _≡_ {A = ℕ} 0 1) → (m : ℕ) × (s ≡ Parts m)
 known-unless (Parts m) never = (m, refl)
 known-unless Missing never = let z = never refl in absurd (omega arith)
 
 -- as many times two numbers, of which nothing is asked where that is none
-pub product-same : (a u v : ℕ) → (0 < a → u ≡ v) → a * u ≡ a * v
+product-same : (a u v : ℕ) → (0 < a → u ≡ v) → a * u ≡ a * v
 product-same zero u v h = omega arith
 product-same (suc a) u v h = ap (λ (n : ℕ). suc a * n) (h (omega arith))
 
@@ -116,10 +116,10 @@ module _ (a : ℕ) (x : Speed) (b : ℕ) (y : Speed) where
   far-missing h e = rw (missing-part b y h e) (together-far (part a x))
 
   -- a speed with weight is known where the whole is
-  pub near-known : (n : ℕ) → weighed a x b y ≡ Parts n → 0 < a → (m : ℕ) × (x ≡ Parts m)
+  near-known : (n : ℕ) → weighed a x b y ≡ Parts n → 0 < a → (m : ℕ) × (x ≡ Parts m)
   near-known n e h = known-unless x (λ gone. cc (near-missing h gone))
 
-  pub far-known : (n : ℕ) → weighed a x b y ≡ Parts n → 0 < b → (m : ℕ) × (y ≡ Parts m)
+  far-known : (n : ℕ) → weighed a x b y ≡ Parts n → 0 < b → (m : ℕ) × (y ≡ Parts m)
   far-known n e h = known-unless y (λ gone. cc (far-missing h gone))
 
   -- the parts by what the speeds with weight come to
