@@ -653,6 +653,23 @@ fn speeds_at_points(tally: &mut Tally) {
     tally.check("points that are filled", filled, 173);
 }
 
+/// The stretch of annex IV of the procedure, 9.2 m deep with 6.2 m dug: joined speeds in mm a second, and none with a slope of 3.
+fn speeds_of_annex(tally: &mut Tally) {
+    let joined = |width, slope| {
+        let section = Section {
+            cut: 920,
+            natural_depth: 300,
+            width,
+            slope,
+        };
+        speed::joined(&section).map(|(above, below)| 100 * above / below)
+    };
+    let by_width = [10_000, 13_100, 16_400].map(|width| joined(width, 4));
+    let wanted = [Some(5_645), Some(5_946), Some(6_228)];
+    tally.check("annex IV, slope 4", by_width, wanted);
+    tally.check("annex IV, slope 3", joined(10_000, 3), None);
+}
+
 /// The weights of the points add up to 1.
 fn weights_of_points(tally: &mut Tally) {
     let mut rng = Random::new(2);
@@ -704,6 +721,7 @@ pub fn all_right() -> bool {
     let mut tally = Tally::default();
     below_zero(&mut tally);
     speeds_at_points(&mut tally);
+    speeds_of_annex(&mut tally);
     weights_of_points(&mut tally);
     random_sheets(&mut tally);
     tally.end("the second program's claims") && right
