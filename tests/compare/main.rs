@@ -8,6 +8,10 @@ mod second;
 #[path = "../second/figures.rs"]
 mod figures;
 
+#[allow(dead_code)] // likewise
+#[path = "../second/typed_figures.rs"]
+mod typed_figures;
+
 mod depths;
 mod designs;
 mod gauges;
@@ -21,6 +25,8 @@ mod proved;
 mod report;
 mod sheets;
 mod speeds;
+mod texts;
+mod typing;
 mod widths;
 mod worked;
 
@@ -41,6 +47,8 @@ fn main() {
         "figures-proved" => proved::figures(),
         "harder" => harder::harder(),
         "printing" => printing::printing(),
+        "typing" => typing::typing(),
+        "showing" => typing::showing(),
         _ => {
             eprintln!("compare: no comparison is called '{name}'");
             std::process::exit(2);

@@ -1,8 +1,9 @@
-//! The printing program, run as it is used: levels.bin in the current folder, sheets on standard input.
+//! The program, run as it is used: levels.bin in the current folder, sheets or a text on standard input.
 
 use std::fs::{self, File};
+use std::io::Write;
 use std::path::PathBuf;
-use std::process::{exit, Command};
+use std::process::{exit, Command, Output, Stdio};
 
 /// A folder of its own below target/, so that several can run at once.
 fn folder(name: &str) -> PathBuf {
@@ -41,6 +42,51 @@ pub fn printed(name: &str, levels: Option<&[u8]>, sheets: &[u8]) -> Vec<u8> {
         exit(1);
     }
     ran.stdout
+}
+
+/// What it writes to standard output and to standard error.
+pub type Written = (Vec<u8>, Vec<u8>);
+
+/// What it writes where it is started with one more word, and its input is a file, which is kept. It must end well.
+pub fn written(name: &str, word: &str, input: &[u8]) -> Written {
+    let folder = folder(name);
+    let file = folder.join("input");
+    fs::write(&file, input).expect("the input is written");
+    let ran = command()
+        .arg(word)
+        .current_dir(&folder)
+        .stdin(File::open(&file).expect("the input is there"))
+        .output()
+        .expect("the program starts");
+    ended_well(name, ran)
+}
+
+/// The same where its input is a pipe, which hands it over in pieces.
+pub fn written_from_pipe(name: &str, word: &str, input: &[u8]) -> Written {
+    let mut started = command()
+        .arg(word)
+        .current_dir(folder(name))
+        .stdin(Stdio::piped())
+        .stdout(Stdio::piped())
+        .stderr(Stdio::piped())
+        .spawn()
+        .expect("the program starts");
+    let mut pipe = started.stdin.take().expect("a pipe is its input");
+    let ran = std::thread::scope(|scope| {
+        // it need not read an input to the end that it does not take
+        scope.spawn(move || drop(pipe.write_all(input)));
+        started.wait_with_output().expect("the program ends")
+    });
+    ended_well(name, ran)
+}
+
+fn ended_well(name: &str, ran: Output) -> Written {
+    if !ran.status.success() {
+        println!("{name}: {}", ran.status);
+        println!("  it said {:?}", String::from_utf8_lossy(&ran.stderr));
+        exit(1);
+    }
+    (ran.stdout, ran.stderr)
 }
 
 /// Takes the inputs of a run away.

@@ -11,7 +11,7 @@ use crate::second::{class, print, width};
 use std::fmt::Debug;
 
 /// S, field by field.
-const S: [i64; FIELDS] = [
+pub const S: [i64; FIELDS] = [
     40_000, 1_000, 20_000, 3_000, 8, 500, 0, 30, 0, 3, 1, 20_000, 2_400, 0, 0, 20, 10, 10, 150, 1,
     0, 0, 0, 0, 0, 0, 1, 500, 0,
 ];
@@ -87,13 +87,13 @@ impl Program for Second {
 }
 
 #[derive(Default)]
-struct Tally {
+pub struct Tally {
     right: u32,
     wrong: u32,
 }
 
 impl Tally {
-    fn check<T: Debug + PartialEq>(&mut self, what: &str, got: T, wanted: T) {
+    pub fn check<T: Debug + PartialEq>(&mut self, what: &str, got: T, wanted: T) {
         if got == wanted {
             self.right += 1;
             println!("right: {what}: {got:?}");
@@ -104,7 +104,7 @@ impl Tally {
     }
 
     /// Says how many were right, and whether all were.
-    fn end(&self, name: &str) -> bool {
+    pub fn end(&self, name: &str) -> bool {
         println!("{name}: {} right, {} wrong", self.right, self.wrong);
         self.wrong == 0
     }

@@ -1,8 +1,10 @@
-//! `second`: with no argument, the printing program; with `figures`, the definition's figures.
+//! `second`: with no argument, the printing program; with `type`, `show` or `form`, the typed sheet's commands; with
+//! `figures`, the definition's figures.
 
 mod figures;
 #[path = "second.rs"]
 mod second;
+mod typed_figures;
 
 use std::io::{self, ErrorKind, Read, Write};
 use std::process::ExitCode;
@@ -16,23 +18,48 @@ fn levels_file() -> io::Result<Option<Vec<u8>>> {
     }
 }
 
-fn print() -> io::Result<()> {
-    let levels = levels_file()?;
+fn standard_input() -> io::Result<Vec<u8>> {
     let mut input = Vec::new();
     io::stdin().read_to_end(&mut input)?;
-    let text = second::print::text(levels.as_deref(), &input);
+    Ok(input)
+}
+
+fn print() -> io::Result<()> {
+    let levels = levels_file()?;
+    let text = second::print::text(levels.as_deref(), &standard_input()?);
     io::stdout().write_all(text.as_bytes())
+}
+
+/// A text with a fault is told on standard error and, as by a proved program, not by the status.
+fn type_text() -> io::Result<()> {
+    let (bytes, said) = second::typed::type_text(&standard_input()?);
+    io::stdout().write_all(&bytes)?;
+    io::stderr().write_all(&said)
+}
+
+fn show() -> io::Result<()> {
+    io::stdout().write_all(&second::typed::show(&standard_input()?))
+}
+
+fn form() -> io::Result<()> {
+    io::stdout().write_all(&second::typed::form())
+}
+
+fn is_done(done: io::Result<()>) -> bool {
+    done.map_err(|error| eprintln!("second: {error}")).is_ok()
 }
 
 fn main() -> ExitCode {
     let arguments: Vec<String> = std::env::args().skip(1).collect();
-    let right = match arguments.as_slice() {
-        [] => print()
-            .map_err(|error| eprintln!("second: {error}"))
-            .is_ok(),
-        [one] if one == "figures" => figures::all_right(),
+    let words: Vec<&str> = arguments.iter().map(String::as_str).collect();
+    let right = match words[..] {
+        [] => is_done(print()),
+        ["type"] => is_done(type_text()),
+        ["show"] => is_done(show()),
+        ["form"] => is_done(form()),
+        ["figures"] => figures::all_right() & typed_figures::all_right(),
         _ => {
-            eprintln!("second: no argument, or `figures`");
+            eprintln!("second: no argument, `type`, `show`, `form` or `figures`");
             false
         }
     };

@@ -10,6 +10,7 @@ pub mod print;
 pub mod random;
 pub mod sheet;
 pub mod speed;
+pub mod typed;
 pub mod width;
 
 /// "Rounded up", of a quotient that is not negative.
