@@ -1,4 +1,4 @@
-mod decimals
-mod putting
+pub mod decimals
+pub mod putting
 mod wholes
 pub mod Promises

@@ -20,12 +20,12 @@ use Rattle.design.specs.Numbers.{numberCount, numbersOf}
 use Rattle.design.specs.Starred.{writing}
 use Rattle.design.proofs.Promises.{all-numbers, numbers-fit}
 use Rattle.lines.specs.Starred.{numbersOfS, lineOfS}
-use Rattle.lines.specs.Lines.{levelsLine, sheetLine, routeLine, lineBytes, placeAfter, bufferAfter}
+use Rattle.lines.specs.Lines.{levelsLine, sheetLine, routeLine, lineBytes, countBytes, placeWithin, bufferWithin, placeAfter, bufferAfter, Put}
 use Rattle.lines.proofs.decimals.Meaning.{digits-value, digits-decimal, decimal-only}
 use Rattle.lines.proofs.decimals.Texts.{count-text-one, number-text-one, minus-negative}
 use Rattle.lines.proofs.wholes.OneLine.{sheet-line-one, levels-line-one, route-line-one}
-use Rattle.lines.proofs.wholes.Sizes.{sheet-line-size, levels-line-size, route-line-size}
-use Rattle.lines.proofs.putting.Fitting.{same-place-exactly, buffer-unfit, before-kept, line-stands, line-behind, none-lost, after-kept, length-kept, place-within}
+use Rattle.lines.proofs.wholes.Sizes.{count-at-most-20, sheet-line-size, levels-line-size, route-line-size}
+use Rattle.lines.proofs.putting.Fitting.{same-place-exactly, buffer-unfit, before-kept, line-stands, line-behind, none-lost, after-kept, length-kept, place-within, put-within}
 use Rattle.lines.proofs.wholes.Sample.{first-line, numbers-s, line-s, last-line}
 
 -- The digits of a number mean it.
@@ -83,41 +83,74 @@ route-line-fits = route-line-size
 
 -- The same place is answered exactly when fewer than 192 bytes are left from it, and then nothing is written.
 pub unfit-exactly : (line : List ℕ) (at : ℕ) (buffer : List ℕ) → 0 < length line → (placeAfter line at buffer ≡ at) ↔ (length buffer < at + lineBytes)
-unfit-exactly = same-place-exactly
+unfit-exactly = same-place-exactly lineBytes
 
 pub unfit-changes-nothing : (line : List ℕ) (at : ℕ) (buffer : List ℕ) → length buffer < at + lineBytes → bufferAfter line at buffer ≡ buffer
-unfit-changes-nothing = buffer-unfit
+unfit-changes-nothing = buffer-unfit lineBytes
 
 -- Otherwise the line stands at its place.
 pub line-at-its-place : (line : List ℕ) (at : ℕ) (buffer : List ℕ) → length line ≤ lineBytes → at + lineBytes ≤ length buffer
     → take (length line) (drop at (bufferAfter line at buffer)) ≡ line
-line-at-its-place = line-stands
+line-at-its-place = line-stands lineBytes
 
 -- It stands behind what stood before its place.
 pub line-behind-text : (line : List ℕ) (at : ℕ) (buffer : List ℕ) → at + lineBytes ≤ length buffer
     → take (placeAfter line at buffer) (bufferAfter line at buffer) ≡ take at buffer ++ line
-line-behind-text = line-behind
+line-behind-text = line-behind lineBytes
 
 -- Every byte before the line and after it stays as it was, and none is added or lost.
 pub before-untouched : (line : List ℕ) (at : ℕ) (buffer : List ℕ) → length line ≤ lineBytes → take at (bufferAfter line at buffer) ≡ take at buffer
-before-untouched = before-kept
+before-untouched = before-kept lineBytes
 
 pub after-untouched : (line : List ℕ) (at : ℕ) (buffer : List ℕ) → length line ≤ lineBytes
     → drop (placeAfter line at buffer) (bufferAfter line at buffer) ≡ drop (placeAfter line at buffer) buffer
-after-untouched = after-kept
+after-untouched = after-kept lineBytes
 
 pub as-long-as-before : (line : List ℕ) (at : ℕ) (buffer : List ℕ) → length line ≤ lineBytes → length (bufferAfter line at buffer) ≡ length buffer
-as-long-as-before = length-kept
+as-long-as-before = length-kept lineBytes
 
 pub no-byte-lost : (line : List ℕ) (at : ℕ) (buffer : List ℕ) → length buffer ≤ length (bufferAfter line at buffer)
-no-byte-lost = none-lost
+no-byte-lost = none-lost lineBytes
 
 -- The place after a line lies in the buffer.
 pub next-place-within : (line : List ℕ) (at : ℕ) (buffer : List ℕ) → length line ≤ lineBytes → at ≤ length buffer
     → placeAfter line at buffer ≤ length buffer
-next-place-within = place-within
+next-place-within = place-within lineBytes
 
--- One answered place and one later content of the buffer, for each of the three calls.
+-- A count where there is room for it: its text stands at the place, and the place after it is answered.
+pub count-put : (count at : ℕ) (buffer later : List ℕ) (end : ℕ) → at + countBytes ≤ length buffer → end ≡ placeWithin countBytes (countText count) at buffer
+    → later ≡ bufferWithin countBytes (countText count) at buffer → Put buffer at (countText count) later end
+count-put count at buffer later end h e f = put-within countBytes (countText count) at buffer h (e, f)
+
+-- Bytes likewise.
+pub bytes-put : (text : List ℕ) (at : ℕ) (buffer later : List ℕ) (end : ℕ) → at + length text ≤ length buffer → end ≡ placeWithin (length text) text at buffer
+    → later ≡ bufferWithin (length text) text at buffer → Put buffer at text later end
+bytes-put text at buffer later end h e f = put-within (length text) text at buffer h (e, f)
+
+-- A count of 64 bits has at most 20 digits.
+pub count-fits : (count : ℕ) → count < 2 ^ 64 → length (countText count) ≤ countBytes
+count-fits = count-at-most-20
+
+-- One answered place and one later content of the buffer, for each of the five calls.
+pub decimal-place-unique : (count at : ℕ) (buffer : List ℕ) (r s : ℕ)
+    → r ≡ placeWithin countBytes (countText count) at buffer → s ≡ placeWithin countBytes (countText count) at buffer → r ≡ s
+decimal-place-unique count at buffer = one-answer
+
+pub decimal-buffer-unique : (count at : ℕ) (buffer now later : List ℕ)
+    → now ≡ bufferWithin countBytes (countText count) at buffer → later ≡ bufferWithin countBytes (countText count) at buffer → now ≡ later
+decimal-buffer-unique count at buffer = one-answer
+
+pub bytes-place-unique : (text : List ℕ) (at : ℕ) (buffer : List ℕ) (r s : ℕ)
+    → r ≡ placeWithin (length text) text at buffer → s ≡ placeWithin (length text) text at buffer → r ≡ s
+bytes-place-unique text at buffer = one-answer
+
+pub bytes-buffer-unique : (text : List ℕ) (at : ℕ) (buffer now later : List ℕ)
+    → now ≡ bufferWithin (length text) text at buffer → later ≡ bufferWithin (length text) text at buffer → now ≡ later
+bytes-buffer-unique text at buffer = one-answer
+
+pub room-unique : (bytes at room : ℕ) (r s : Bool) → r ≡ (at + room ≤ᵇ bytes) → s ≡ (at + room ≤ᵇ bytes) → r ≡ s
+room-unique bytes at room = one-answer
+
 pub fits-unique : (bytes at : ℕ) (r s : Bool) → r ≡ (at + lineBytes ≤ᵇ bytes) → s ≡ (at + lineBytes ≤ᵇ bytes) → r ≡ s
 fits-unique bytes at = one-answer
 

@@ -50,13 +50,24 @@ lineBytes = 12 * numberCount + 36
 unfoldable pub withText : ℕ → List ℕ → List ℕ → List ℕ
 withText at text buffer = take at buffer ++ (text ++ drop (at + length text) buffer)
 
--- the place after a line at a place: the same place where no line fits
-unfoldable pub placeAfter : List ℕ → ℕ → List ℕ → ℕ
-placeAfter line at buffer = if at + lineBytes ≤ᵇ length buffer then at + length line else at
+-- the place after a text at a place, where so much room is asked for: the same place where there is less
+unfoldable pub placeWithin : ℕ → List ℕ → ℕ → List ℕ → ℕ
+placeWithin room text at buffer = if at + room ≤ᵇ length buffer then at + length text else at
 
--- the buffer after a line at a place: as it was where no line fits
-unfoldable pub bufferAfter : List ℕ → ℕ → List ℕ → List ℕ
-bufferAfter line at buffer = if at + lineBytes ≤ᵇ length buffer then withText at line buffer else buffer
+-- the buffer after a text at a place: as it was where there is less room
+unfoldable pub bufferWithin : ℕ → List ℕ → ℕ → List ℕ → List ℕ
+bufferWithin room text at buffer = if at + room ≤ᵇ length buffer then withText at text buffer else buffer
+
+-- the same of a line
+abbrev pub placeAfter : List ℕ → ℕ → List ℕ → ℕ
+placeAfter = placeWithin lineBytes
+
+abbrev pub bufferAfter : List ℕ → ℕ → List ℕ → List ℕ
+bufferAfter = bufferWithin lineBytes
+
+-- the bytes that a count is given: none of 64 bits has more digits
+abbrev pub countBytes : ℕ
+countBytes = 20
 
 -- a text was put at a place of a buffer, which is now as later; end is the place after it
 pub record Put (buffer : List ℕ) (at : ℕ) (text : List ℕ) (later : List ℕ) (end : ℕ) : Type 0 where

@@ -7,7 +7,7 @@ ghost use lib.ListN.{length, take, drop};
 ghost use Rattle.laws.specs.Choice.{_≤ᵇ_};
 ghost use Rattle.design.specs.Numbers.{numberCount};
 ghost use Rattle.lines.specs.Decimals.{digits, countText, numberText};
-ghost use Rattle.lines.specs.Lines.{lineBytes, spaced, lineText, sheetLine, levelsLine, routeLine, placeAfter, bufferAfter, Put};
+ghost use Rattle.lines.specs.Lines.{lineBytes, spaced, lineText, sheetLine, levelsLine, routeLine, countBytes, placeWithin, bufferWithin, placeAfter, bufferAfter, Put};
 use design::COUNT;
 
 // The counts of a line that begins with a letter.
@@ -15,6 +15,9 @@ const COUNTS: usize = 3;
 
 // The bytes that a line is given: a sheet's has at most 12 for each number and 21 for its index and the newline.
 const LINE_BYTES: usize = 12 * COUNT + 36;
+
+// The bytes that a count is given.
+const COUNT_BYTES: usize = 20;
 
 const ZERO: u64 = 48;
 
@@ -64,14 +67,54 @@ pub fn put_route_line(sheets: u64, answered: u64, class: u8, buffer: &mut [u8], 
     put_letter_line(LETTER_R, [sheets, answered, class as u64], buffer, at)
 }
 
+// Puts a count at a place and answers the place after it; the same place, and nothing put, where 20 bytes do not fit.
+pub fn put_decimal(count: u64, buffer: &mut [u8], at: usize) -> usize
+    ensures { λ r. ⌜ (r ≡ placeWithin countBytes (countText count) at (now (buffer .entry))) × (now (buffer .exit) ≡ bufferWithin countBytes (countText count) at (now (buffer .entry))) ⌝ }
+{
+    if !fits(buffer.len(), at, COUNT_BYTES) {
+        return at;
+    }
+    put_count(count, buffer, at)
+}
+
+// Puts bytes at a place and answers the place after them; the same place, and nothing put, where they do not fit.
+pub fn put_bytes(text: &[u8], buffer: &mut [u8], at: usize) -> usize
+    ensures { λ r. ⌜ (r ≡ placeWithin (length (now (text .entry))) (now (text .entry)) at (now (buffer .entry))) × (now (buffer .exit) ≡ bufferWithin (length (now (text .entry))) (now (text .entry)) at (now (buffer .entry))) ⌝ }
+{
+    if !fits(buffer.len(), at, text.len()) {
+        return at;
+    }
+    copy_bytes(text, buffer, at)
+}
+
+// Whether so much room is in a buffer of so many bytes from a place on.
+pub fn fits(bytes: usize, at: usize, room: usize) -> bool
+    ensures { λ r. ⌜ r ≡ (at + room ≤ᵇ bytes) ⌝ }
+{
+    if bytes < room {
+        return false;
+    }
+    at <= bytes - room
+}
+
 // Whether a line fits into a buffer of so many bytes from a place on.
 pub fn line_fits(bytes: usize, at: usize) -> bool
     ensures { λ r. ⌜ r ≡ (at + lineBytes ≤ᵇ bytes) ⌝ }
 {
-    if bytes < LINE_BYTES {
-        return false;
+    fits(bytes, at, LINE_BYTES)
+}
+
+// Bytes, one by one.
+fn copy_bytes(text: &[u8], buffer: &mut [u8], at: usize) -> usize
+    requires { ⌜ at + length (now text) ≤ length (now buffer) ⌝ }
+    ensures { λ r. ⌜ Put (now (buffer .entry)) at (now (text .entry)) (now (buffer .exit)) r ⌝ }
+{
+    let mut j: usize = 0;
+    while j < text.len() {
+        buffer[at + j] = text[j];
+        j += 1;
     }
-    at <= bytes - LINE_BYTES
+    at + j
 }
 
 // A line of an index and the numbers of a sheet.

@@ -5,8 +5,11 @@ use mathlib.Core.List.{List, [], _∷_}
 use mathlib.Core.Logic.{_≢_}
 use Prim.Native.Nat.{ℕ, suc, _-_, _<_}
 use lib.ListN.{getD}
-use Rattle.laws.specs.Choice.{if_then_else_, _<ᵇ_, _=ᵇ_}
+use Rattle.laws.specs.Choice.{if_then_else_, _≤ᵇ_, _<ᵇ_, _=ᵇ_}
 use Rattle.laws.specs.First.{firstFrom, firstOf}
+use Rattle.sheet.specs.declared.Range.{Range}
+use Rattle.sheet.specs.declared.Standing.{Standing}
+use Rattle.sheet.specs.declared.Standing.the-variants.{Fine, Outside, Disagrees}
 use Rattle.sheet.specs.declared.fields.Field.{Field}
 
 -- a field's bits, its least and its greatest value
@@ -99,6 +102,15 @@ outsideAt figures k = (nth figures k <ᵇ least k) || (greatest k <ᵇ nth figur
 
 unfoldable pub firstOutside : List ℕ → ℕ → ℕ → ℕ
 firstOutside figures from to = firstFrom (outsideAt figures) from (to - from)
+
+-- the values of the field after the first k
+unfoldable pub rangeOf : ℕ → Range
+rangeOf k = record { least = least k; greatest = greatest k }
+
+-- how the figure after the first k stands; past the fields nothing is wrong
+unfoldable pub standingOf : List ℕ → ℕ → Standing
+standingOf figures k =
+    if count ≤ᵇ k then Fine else (if outsideAt figures k then Outside else (if pairBad figures k then Disagrees else Fine))
 
 -- the number of the first bad field past the first from, 0 where there is none
 unfoldable pub firstBadFrom : List ℕ → ℕ → ℕ

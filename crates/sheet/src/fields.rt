@@ -13,7 +13,7 @@ pub const GROUPS: usize = COUNT + 1;
 const SPARE_BITS: u32 = 7;
 
 // The field after the first i. A match and no array: the compiler would build the array anew at each call.
-fn field_at(i: usize) -> Field
+pub fn field_at(i: usize) -> Field
     ensures { λ r. ⌜ r ≡ fieldAt i ⌝ }
 {
     match i {
@@ -64,7 +64,7 @@ pub fn width_of(i: usize) -> u32
 }
 
 // Whether field i + 1 is bad against another field.
-fn pair_bad(figures: [u32; COUNT], i: usize) -> bool
+pub fn pair_bad(figures: [u32; COUNT], i: usize) -> bool
     ensures { λ r. ⌜ r ≡ pairBad figures i ⌝ }
 {
     // turn and radius are both 0, or both not
@@ -79,7 +79,7 @@ fn pair_bad(figures: [u32; COUNT], i: usize) -> bool
 }
 
 // Whether field i + 1 is outside its values.
-fn outside(figures: [u32; COUNT], i: usize) -> bool
+pub fn outside(figures: [u32; COUNT], i: usize) -> bool
     requires { ⌜ i < count ⌝ }
     ensures { λ r. ⌜ r ≡ outsideAt figures i ⌝ }
 {

@@ -1,5 +1,6 @@
 // The sheet: 28 bytes, 29 fields packed most significant bit first (definition, section 1).
 ghost use mathlib.Core.Path.{_≡_};
+ghost use Rattle.sheet.specs.Fields.{rangeOf, standingOf};
 ghost use Rattle.sheet.specs.Refusals.{readFaultNumber, readFaultField, writeFaultNumber, writeFaultField};
 ghost use Rattle.sheet.specs.Sheets.{figuresOf, sheetFrom, readOf, writtenOf, placeOf};
 use datum::AlongCurrent;
@@ -143,6 +144,46 @@ pub fn write_fault_field(fault: WriteFault) -> u8
         WriteFault::PlaceTooSmall => 0,
         WriteFault::BadField(field) => field,
     }
+}
+
+// A field's least and greatest value.
+pub struct Range {
+    pub least: u32,
+    pub greatest: u32,
+}
+
+// How a figure stands in its field: as it should, outside its values, or against another field.
+pub enum Standing {
+    Fine,
+    Outside,
+    Disagrees,
+}
+
+// The values of the field after the first i; 0 and 0 where there is none.
+pub fn range_of(i: usize) -> Range
+    ensures { λ r. ⌜ r ≡ rangeOf i ⌝ }
+{
+    let field = fields::field_at(i);
+    Range {
+        least: field.1,
+        greatest: field.2,
+    }
+}
+
+// How the figure after the first i stands; past the fields nothing is wrong.
+pub fn standing_of(figures: [u32; COUNT], i: usize) -> Standing
+    ensures { λ r. ⌜ r ≡ standingOf figures i ⌝ }
+{
+    if COUNT <= i {
+        return Standing::Fine;
+    }
+    if fields::outside(figures, i) {
+        return Standing::Outside;
+    }
+    if fields::pair_bad(figures, i) {
+        return Standing::Disagrees;
+    }
+    Standing::Fine
 }
 
 // The figures of a sheet, in the order of its fields.

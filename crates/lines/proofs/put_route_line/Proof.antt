@@ -1,6 +1,6 @@
 -- `lines::put_route_line` meets its contract: where a line fits, and where none does.
 use borrow.Author.Needs.{needs}
-use Rattle.lines.specs.Lines.{routeLine}
+use Rattle.lines.specs.Lines.{lineBytes, routeLine}
 use Rattle.lines.proofs.putting.Fitting.{room, unfit, fitting}
 use Rattle.lines.proofs.put_route_line.Statement.{statement}
 use Rattle.lines.proofs.put_route_line.Tie as tie
@@ -9,14 +9,14 @@ returns-2 : tie.Need-returns-2
 unfolding routeLine
 returns-2 c =
     let g = c .before .before .before .before in
-    fitting _ _ _ (g .before .line-fits .ensures) (g .if1 .left) (c .before .before .put-letter-line .ensures)
+    fitting lineBytes _ _ _ (g .before .line-fits .ensures) (g .if1 .left) (c .before .before .put-letter-line .ensures)
 
 pub put-route-line-spec : {M : Type 1} → statement M
 put-route-line-spec =
     tie.close
     (tie.spec
     (λ c κs. search needs)
-    (λ c. unfit _ _ _ (c .before .line-fits .ensures) (c .if1 .taken))
-    (λ c κs. room _ _ (c .before .before .line-fits .ensures) (c .before .if1 .left))
+    (λ c. unfit lineBytes _ _ _ (c .before .line-fits .ensures) (c .if1 .taken))
+    (λ c κs. room lineBytes _ _ (c .before .before .line-fits .ensures) (c .before .if1 .left))
     (λ c. search needs)
     returns-2)

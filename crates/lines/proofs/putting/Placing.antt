@@ -52,6 +52,10 @@ module _ (buffer : List ℕ) (at : ℕ) (text : List ℕ) where
         rw (← drop-drop (length more) (at + length text) (withText at text buffer), after-stays, drop-drop, n) in
         rw (head-stands (omega arith), rest) (simp append-assoc)
 
+-- a buffer is as long after a text that fits as before
+pub put-long : {buffer text later : List ℕ} {at end : ℕ} → Put buffer at text later end → at + length text ≤ length buffer → length later ≡ length buffer
+put-long {buffer} {text} {at = at} p h = ap length (p .holds) ∙ put-length buffer at text h
+
 pub put-none : {buffer : List ℕ} {at : ℕ} → Put buffer at [] buffer at
 unfolding withText
 put-none {buffer} {at} = record { after = omega arith; holds = rw add-zero (sym (take-append-drop at buffer)) }

@@ -22,7 +22,7 @@ spaced-at-most k [] e = omega arith
 spaced-at-most k (word ∷ words) e =
     omega (arith, spaced-at-most k words (e .1), length-append word (spaced words), mul-suc (k + 1) (length words))
 
-count-at-most-20 : (n : ℕ) → n < 2 ^ 64 → length (countText n) ≤ 20
+pub count-at-most-20 : (n : ℕ) → n < 2 ^ 64 → length (countText n) ≤ 20
 count-at-most-20 n h = count-at-most 19 n (omega arith)
 
 pub sheet-line-size : (index : ℕ) (numbers : List ℤ) → index < 2 ^ 64 → length numbers ≡ numberCount → Each (SFits w32) numbers

@@ -2,7 +2,7 @@
 use mathlib.Core.Path.{_≡_, refl, sym}
 use mathlib.Core.Bool.{Bool, true, false, _||_, or-false, or-assoc}
 use mathlib.Core.List.{List}
-use Prim.Native.Nat.{ℕ, zero, suc, _<_, _≤_}
+use Prim.Native.Nat.{ℕ, _<_, _≤_}
 use native.Mathlib.Omega.{arith}
 use borrow.Author.Tests.{lt-ltb, le-ltb, ltb-false, ne-eqb}
 use lib.Dec.{ltb}
@@ -43,15 +43,6 @@ module _ (figures : List ℕ) (k : ℕ) where
       let a = neither _ _ e in
       let b = neither _ _ (a .1) in
       record { low = ltb-false _ _ (a .0); high = ltb-false _ _ (b .0); pair = b .1 }
-
--- k is none of the first n places
-abbrev Missed : ℕ → ℕ → Type 0
-Missed zero k = Unit
-Missed (suc n) k = Missed n k × (k ≡ n → ⊥)
-
-pub missed-past : (n k : ℕ) → Missed n k → n ≤ k
-missed-past zero k m = omega arith
-missed-past (suc n) k m = let l : n ≤ k = missed-past n k (m .0) in let d : k ≡ n → ⊥ = m .1 in omega arith
 
 -- past the fields there is none
 pub no-field : (k : ℕ) → count ≤ k → (0 bits 0 upto 0) ≡ fieldAt k

@@ -1,6 +1,7 @@
 -- `sheet::fields::field_at` meets its contract: each arm has the definition's row, and past the rows there is no field.
 use Rattle.sheet.specs.Fields.{count, fields, fieldAt}
-use Rattle.sheet.proofs.fields.Rules.{missed-past, no-field}
+use Rattle.laws.proofs.Missed.{missed-past}
+use Rattle.sheet.proofs.fields.Rules.{no-field}
 use Rattle.sheet.proofs.fields.field_at.Statement.{statement}
 use Rattle.sheet.proofs.fields.field_at.Tie as tie
 

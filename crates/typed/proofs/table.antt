@@ -1,0 +1,2 @@
+-- The rows of the table and their values.
+pub mod Values
