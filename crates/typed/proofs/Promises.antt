@@ -97,10 +97,10 @@ blank-says-none = blank-no-figure
 pub line-fits-room : (i n : ℕ) → i < count → n < 2 ^ 32 → length (lineText i n) ≤ lineBytes
 line-fits-room = line-fits
 
-pub blank-fits-room : (i : ℕ) → i < count → length (blankText i) ≤ lineBytes
+pub blank-fits-room : (i : ℕ) → length (blankText i) ≤ lineBytes
 blank-fits-room = blank-fits
 
-pub expected-fits-room : (i : ℕ) → i < count → length (expectedText i) ≤ expectedBytes
+pub expected-fits-room : (i : ℕ) → length (expectedText i) ≤ expectedBytes
 expected-fits-room = expected-fits
 
 -- No byte is below a space: no newline, no carriage return, no tab.
@@ -111,10 +111,10 @@ line-has-no-newline = no-control
 pub line-in-print : (i n : ℕ) → i < count → Each (λ (b : ℕ). (32 ≤ b) × (b ≤ 126)) (lineText i n)
 line-in-print = line-plain
 
-pub blank-in-print : (i : ℕ) → i < count → Each (λ (b : ℕ). (32 ≤ b) × (b ≤ 126)) (blankText i)
+pub blank-in-print : (i : ℕ) → Each (λ (b : ℕ). (32 ≤ b) × (b ≤ 126)) (blankText i)
 blank-in-print = blank-plain
 
-pub expected-in-print : (i : ℕ) → i < count → Each (λ (b : ℕ). (32 ≤ b) × (b ≤ 126)) (expectedText i)
+pub expected-in-print : (i : ℕ) → Each (λ (b : ℕ). (32 ≤ b) × (b ≤ 126)) (expectedText i)
 expected-in-print = expected-plain
 
 -- No line is empty, and the first byte is a small letter: no line is blank or a comment.

@@ -16,6 +16,7 @@ use Rattle.laws.proofs.Every.{both-left, both-right, every-at}
 use Rattle.lines.specs.Decimals.{digitsWithin, digits, byteOf, minus, countText}
 use Rattle.lines.specs.Lines.{space}
 use Rattle.lines.proofs.Promises.{count-fits}
+use Rattle.lines.proofs.decimals.Digits.{below-or}
 use Rattle.lines.proofs.decimals.Texts.{DigitByte, count-bytes}
 use Rattle.sheet.specs.Fields.{fields, fieldAt, least, greatest, rangeOf}
 use Rattle.typed.specs.Rows.{bytesOf, count, rows, rowAt, valuesOf}
@@ -23,6 +24,7 @@ use Rattle.typed.specs.Lines.{lineBytes, expectedBytes, token, point, te
 use Rattle.typed.specs.declared.Kind.{Kind}
 use Rattle.typed.specs.declared.Kind.the-variants.{Whole, Tenths, Hundredths, Words, Level}
 use Rattle.typed.proofs.meaning.Names.{rest, line-parts}
+use Rattle.typed.proofs.table.Values.{no-row, past-rows}
 
 -- a space, a sign, a digit or a letter
 abbrev pub Plain : ℕ → Type 0
@@ -257,18 +259,25 @@ line-most i n h l =
 pub line-fits : (i n : ℕ) → i < count → n < 2 ^ 32 → length (lineText i n) ≤ lineBytes
 line-fits i n h l = omega (arith, line-most i n h (omega arith))
 
--- the same of what is expected in a row and of its line in the empty form, by computing
+-- the same of what is expected in a row and of its line in the empty form, by computing; the rows past the last are all alike
 form-row : ℕ → Bool
 form-row i =
     (plain (expectedText i) && (length (expectedText i) ≤ᵇ expectedBytes)) && (plain (blankText i) && (length (blankText i) ≤ᵇ lineBytes))
 
-form-test : T (every count form-row)
+form-test : T (every (count + 1) form-row)
 unfolding form-row plain blankText blankRow expectedText linesText spanText wordsFrom valuesOf rangeOf least greatest fieldAt fields rowText frontText nameText figureText unitText behind token countText digits digitsWithin tenthsText hundredthsText levelText wordText rowAt rows flatten
 form-test = tt
 
-module _ (i : ℕ) (h : i < count) where
+form-past : (i : ℕ) → count ≤ i → form-row i ≡ form-row count
+unfolding form-row expectedText blankText
+form-past i h = rw (← no-row i h, ← past-rows i h, ← no-row count (omega arith), ← past-rows count (omega arith))
+
+module _ (i : ℕ) where
   form-tested : T (form-row i)
-  form-tested = every-at count form-row form-test i h
+  form-tested =
+      below-or i count
+      (λ h. every-at (count + 1) form-row form-test i (omega arith))
+      (λ h. rw (form-past i h) (every-at (count + 1) form-row form-test count (omega arith)))
 
   expected-tested : T (plain (expectedText i) && (length (expectedText i) ≤ᵇ expectedBytes))
   unfolding form-row

@@ -1,0 +1,3 @@
+-- Typed texts.
+pub mod meaning
+pub mod Promises

@@ -1,0 +1,2 @@
+-- A text's lines.
+pub mod Lines

@@ -1,0 +1,2 @@
+-- What stood at a place.
+pub mod Parts

@@ -1,0 +1,55 @@
+-- `texts::messages::put_reason` meets its contract: each arm puts the words of its fault.
+use native.Mathlib.Omega.{arith}
+use borrow.Author.Needs.{needs}
+use Rattle.texts.proofs.messages.put_reason.Statement.{statement}
+use Rattle.texts.proofs.messages.put_reason.Tie as tie
+
+pub put-reason-spec : {M : Type 1} → statement M
+put-reason-spec =
+    tie.close
+    (tie.spec
+    (λ c. search needs)
+    (λ c. search needs)
+    (λ c κs. search needs)
+    (λ c. search needs)
+    (λ c. search needs)
+    (λ c κs. search needs)
+    (λ c. search needs)
+    (λ c. search needs)
+    (λ c κs. search needs)
+    (λ c. search needs)
+    (λ c. search needs)
+    (λ c κs. search needs)
+    (λ c. search needs)
+    (λ c. search needs)
+    (λ c κs. search needs)
+    (λ c. search needs)
+    (λ c. search needs)
+    (λ c κs. search needs)
+    (λ c. search needs)
+    (λ c. search needs)
+    (λ c κs. search needs)
+    (λ c. search needs)
+    (λ c. search needs)
+    (λ c κs. search needs)
+    (λ c. search needs)
+    (λ c. search needs)
+    (λ c κs. search needs)
+    (λ c. search needs)
+    (λ c. rw (c .before .before .before .before .before .enum-told .given .1) (c .before .before .put .ensures .0, omega (arith, c .before .before .put .ensures .1)))
+    (λ c. search needs)
+    (λ c. rw (c .before .before .before .before .before .enum-told2 .given .1) (c .before .before .put2 .ensures .0, omega (arith, c .before .before .put2 .ensures .1)))
+    (λ c. search needs)
+    (λ c. rw (c .before .before .before .before .before .enum-told3 .given .1) (c .before .before .put3 .ensures .0, omega (arith, c .before .before .put3 .ensures .1)))
+    (λ c. search needs)
+    (λ c. rw (c .before .before .before .before .before .enum-told4 .given .1) (c .before .before .put4 .ensures .0, omega (arith, c .before .before .put4 .ensures .1)))
+    (λ c. search needs)
+    (λ c. rw (c .before .before .before .before .before .enum-told5 .given .1) (c .before .before .put5 .ensures .0, omega (arith, c .before .before .put5 .ensures .1)))
+    (λ c. search needs)
+    (λ c. rw (c .before .before .before .before .before .enum-told6 .given .1) (c .before .before .put6 .ensures .0, omega (arith, c .before .before .put6 .ensures .1)))
+    (λ c. search needs)
+    (λ c. rw (c .before .before .before .before .before .enum-told7 .given .1) (c .before .before .put7 .ensures .0, omega (arith, c .before .before .put7 .ensures .1)))
+    (λ c. search needs)
+    (λ c. rw (c .before .before .before .before .before .enum-told8 .given .1) (c .before .before .put8 .ensures .0, omega (arith, c .before .before .put8 .ensures .1)))
+    (λ c. search needs)
+    (λ c. rw (c .before .before .before .before .before .enum-told9 .given .1) (c .before .before .put9 .ensures .0, omega (arith, c .before .before .put9 .ensures .1))))

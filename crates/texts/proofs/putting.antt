@@ -1,0 +1,2 @@
+-- Texts put where there is room.
+pub mod Typed

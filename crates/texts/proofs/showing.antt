@@ -1,0 +1,3 @@
+-- Sheets shown and written.
+pub mod Sheets
+pub mod Rows

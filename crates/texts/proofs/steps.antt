@@ -1,0 +1,3 @@
+-- One line of a text, and the first that brings something.
+pub mod Turning
+pub mod Finding

@@ -1,0 +1,7 @@
+-- Typed texts: definition, section 14.
+pub mod Cutting
+pub mod Steps
+pub mod Texts
+pub mod Messages
+pub mod Shown
+pub mod Typed
