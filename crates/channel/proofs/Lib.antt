@@ -3,8 +3,10 @@ mod Blocks
 mod Loading
 mod Lines
 mod Cuts
+mod Taking
 mod Printing
-mod Inputs
+mod Shows
+mod Faults
 mod Whole
 mod Routes
 mod Starred

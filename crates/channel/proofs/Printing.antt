@@ -1,28 +1,25 @@
--- Sheets printed: one after another, and in two parts. By the list of sheets.
-use mathlib.Core.Path.{_≡_, refl, sym, ap, _∙_}
-use mathlib.Core.Bool.{Bool, true, false}
+-- Sheets printed: one, and in two parts. By the list of sheets.
+use mathlib.Core.Path.{_≡_, refl, ap}
 use mathlib.Core.List.{List, [], _∷_, _++_}
-use Prim.Native.Nat.{ℕ, _+_, _-_, _≤_, _<_, min}
-use native.Mathlib.Omega.{arith}
+use Prim.Native.Nat.{ℕ}
 use lib.IntN.{ℤ}
-use lib.ListN.{length, take, drop, length-drop}
 use Rattle.gauge.specs.declared.LevelRead.{LevelRead}
 use Rattle.design.specs.Design.{designAt}
 use Rattle.design.specs.Numbers.{numbersOf}
 use Rattle.design.specs.declared.Answer.{Answer}
-use Rattle.lines.specs.Lines.{sheetLine, placeAfter, bufferAfter}
+use Rattle.lines.specs.Lines.{lineBytes, sheetLine, placeAfter, bufferAfter}
+use Rattle.channel.specs.Input.{SoFar}
 use Rattle.channel.specs.Output.{placeFor, withLine, withLines}
-use Rattle.channel.specs.Route.{withSheet}
-use Rattle.channel.specs.Text.{sheetsOf, routeAfter, sheetLines}
-use Rattle.channel.specs.Printing.{Progress, sheetsPrinted, printedCount}
-use Rattle.channel.specs.declared.input.Filled.{Filled}
+use Rattle.channel.specs.Route.{noSheets, withSheet}
+use Rattle.channel.specs.Text.{routeAfter, sheetLines}
+use Rattle.channel.specs.Printing.{inputBlock, Progress, atFirst, sheetsPrinted, InputPrinted}
 use Rattle.channel.specs.declared.route.Route.{Route}
 use Rattle.channel.proofs.Lines.{lines-in-two}
-use Rattle.channel.proofs.Cuts.{no-sheet, next-from}
+use Rattle.channel.proofs.Taking.{Putting, begun}
 
 -- a sheet's line, from the answer to the buffer
 pub line-printed : (level : LevelRead) (sheet : List ℕ) (p : Progress) (at : ℕ) (answer : Answer) (route : Route)
-    (numbers : List ℤ) (after : ℕ) (later : List ℕ) → at ≡ placeFor (p .lines .buffer) (p .lines .at) → answer ≡ designAt sheet level
+    (numbers : List ℤ) (after : ℕ) (later : List ℕ) → at ≡ placeFor lineBytes (p .lines .buffer) (p .lines .at) → answer ≡ designAt sheet level
     → route ≡ withSheet (p .route) answer → numbers ≡ numbersOf answer → after ≡ placeAfter (sheetLine (route .sheets) numbers) at (p .lines .buffer)
     → later ≡ bufferAfter (sheetLine (route .sheets) numbers) at (p .lines .buffer)
     → record { route = route; lines = record { at = after; buffer = later } } ≡ sheetsPrinted level (sheet ∷ []) p
@@ -46,37 +43,15 @@ module _ (level : LevelRead) where
   pub printed-in-two : (first second : List (List ℕ)) (p : Progress) → sheetsPrinted level (first ++ second) p ≡ sheetsPrinted level second (sheetsPrinted level first p)
   unfolding sheetsPrinted
   printed-in-two first second p =
-      rw (route-in-two first second (p .route), sheet-lines-in-two first second (p .route), lines-in-two (sheetLines level (p .route) first) (sheetLines level (routeAfter level (p .route) first) second) (p .lines))
+      rw (route-in-two first second (p .route), sheet-lines-in-two first second (p .route), lines-in-two lineBytes (sheetLines level (p .route) first) (sheetLines level (routeAfter level (p .route) first) second) (p .lines))
 
   pub none-printed : (p : Progress) → sheetsPrinted level [] p ≡ p
   unfolding sheetsPrinted routeAfter sheetLines withLines
   none-printed p = refl
 
-  -- the sheets of a block from a place on: its first, by its two ends, and then those behind it
-  pub sheet-more : (block : List ℕ) (from to : ℕ) (p q : Progress) → from < length block → to ≡ from + min 28 (length block - from)
-      → q ≡ sheetsPrinted level (take (to - from) (drop from block) ∷ []) p
-      → sheetsPrinted level (sheetsOf (drop from block)) p ≡ sheetsPrinted level (sheetsOf (drop to block)) q
-  sheet-more block from to p q some t e =
-      ap (λ (sheets : List (List ℕ)). sheetsPrinted level sheets p) (next-from block from to some t)
-      ∙ printed-in-two (take (to - from) (drop from block) ∷ []) (sheetsOf (drop to block)) p
-      ∙ ap (sheetsPrinted level (sheetsOf (drop to block))) (sym e)
+  abbrev pub printing : Putting Progress
+  printing = record { put = sheetsPrinted level; none = none-printed; in-turn = printed-in-two }
 
-  pub none-more : (block : List ℕ) (from : ℕ) (p : Progress) → length block ≤ from → sheetsPrinted level (sheetsOf (drop from block)) p ≡ p
-  none-more block from p h =
-      ap (λ (sheets : List (List ℕ)). sheetsPrinted level sheets p) (no-sheet (drop from block) (omega (arith, length-drop from block))) ∙ none-printed p
-
--- no more is printed than was filled
-pub printed-within : (filled : Filled) → printedCount filled ≤ filled .count
-printed-within filled = go (filled .failed) refl
-  where
-    go : (failed : Bool) → filled .failed ≡ failed → printedCount filled ≤ filled .count
-    go true e = rw e (omega arith)
-    go false e = rw e (omega arith)
-
--- all of it where no read failed
-pub printed-all : (filled : Filled) → filled .failed ≡ false → printedCount filled ≡ filled .count
-printed-all filled e = rw e
-
-pub count-printed : (level : LevelRead) (p q : Progress) (space : List ℕ) (m n : ℕ) → q ≡ sheetsPrinted level (sheetsOf (take m space)) p → m ≡ n
-    → q ≡ sheetsPrinted level (sheetsOf (take n space)) p
-count-printed level p q space m n e count = e ∙ ap (λ (k : ℕ). sheetsPrinted level (sheetsOf (take k space)) p) count
+  pub begun-at : (route : Route) (at : ℕ) (buffer : List ℕ) → route ≡ noSheets
+      → SoFar inputBlock (InputPrinted level (atFirst at buffer) (record { route = route; lines = record { at = at; buffer = buffer } }))
+  begun-at route at buffer e = rw e (begun printing (atFirst at buffer))

@@ -1,9 +1,9 @@
--- What the printing program promises (section 10). `TextPrinted` of specs/Printing.antt is what `print` ensures, and `main` writes the rest that it
--- leaves; `printed` of specs/Text.antt is the text.
+-- What the program promises, printing (section 10) and showing (14.5). `TextPrinted` of specs/Printing.antt is what `print` ensures, `TextShown` of
+-- specs/Showing.antt what `show` does, and `main` writes the rest that they leave; `printed` of specs/Text.antt and `shown` are the texts.
 use mathlib.Core.Path.{_≡_, ap, _∙_}
 use mathlib.Core.List.{List, [], _∷_, _++_, flatten}
 use mathlib.Core.Logic.{_≢_}
-use Prim.Native.Nat.{ℕ, _*_, _≤_, _<_, min}
+use Prim.Native.Nat.{ℕ, _+_, _*_, _≤_, _<_, min}
 use native.Mathlib.Nat.{zero-add}
 use native.Mathlib.Omega.{arith}
 use lib.ListN.{length, take, drop}
@@ -17,28 +17,31 @@ use Rattle.design.specs.Design.{designAt}
 use Rattle.design.specs.Numbers.{codeOf}
 use Rattle.design.specs.Starred.{writing}
 use Rattle.design.proofs.Promises.{other-length-one}
+use Rattle.texts.specs.Shown.{shownBytes, shownText}
 use Rattle.channel.specs.Input.{Input, inputOf, Came}
 use Rattle.channel.specs.Output.{Lines, standing, withLines, written}
 use Rattle.channel.specs.Route.{noSheets}
 use Rattle.channel.specs.Text.{sheetsOf, routeAfter, shipsOfAll, howManyAnswered, linesOf, printed}
 use Rattle.channel.specs.Printing.{fileBlock, inputBlock, TextPrinted}
+use Rattle.channel.specs.Showing.{shownTexts, textsOf, shown, TextShown}
 use Rattle.channel.specs.Starred.{textOfS}
 use Rattle.channel.specs.declared.Text.the-variants.{Whole}
 use Rattle.channel.proofs.Lines.{all-lines}
 use Rattle.channel.proofs.Cuts.{next-sheet, no-sheet, in-two, joined, how-many}
 use Rattle.channel.proofs.Routes as the-route
 use Rattle.channel.proofs.Starred.{sample}
+use Rattle.channel.proofs.Shows.{indexed}
 
 -- Whatever blocks the record and the sheets came in, the text is that of the record and the sheets: where the program came to its end, there are
 -- the blocks that it read, each to its end, and what was written, with the rest in the buffer, is what is printed of their bytes.
 pub text-is-printed : (buffer later : List ℕ) (rest : ℕ) → TextPrinted buffer (Whole rest) later
     → (file : Input) × Came fileBlock file × ((input : Input) × Came inputBlock input
-    × (written (linesOf (inputOf file) (inputOf input)) (record { at = 0; buffer = buffer }) ++ take rest later ≡ printed (inputOf file) (inputOf input)))
+    × (written lineBytes (linesOf (inputOf file) (inputOf input)) (record { at = 0; buffer = buffer }) ++ take rest later ≡ printed (inputOf file) (inputOf input)))
 text-is-printed buffer later rest ensured = ensured
 
 -- Lines are written in their order, each once, cut into writes anywhere: what was written and what stands in the buffer are what stood there and the lines.
-pub lines-in-order : (lines : List (List ℕ)) (l : Lines) → lineBytes ≤ length (l .buffer)
-    → written lines l ++ standing (withLines lines l) ≡ standing l ++ flatten lines
+pub lines-in-order : (room : ℕ) (lines : List (List ℕ)) (l : Lines) → room ≤ length (l .buffer)
+    → written room lines l ++ standing (withLines room lines l) ≡ standing l ++ flatten lines
 lines-in-order = all-lines
 
 -- The sheets are the input, cut
@@ -82,3 +85,14 @@ module _ (level : LevelRead) where
 -- The definition's sample, to the byte: case S, and no file.
 pub starred-text : printed [] (writing sheetS) ≡ textOfS
 starred-text = sample
+
+-- Whatever blocks bytes came in that are shown, the text is theirs, likewise.
+pub text-is-shown : (buffer later : List ℕ) (rest : ℕ) → TextShown buffer (Whole rest) later
+    → (input : Input) × Came inputBlock input × (written shownBytes (textsOf (inputOf input)) (record { at = 0; buffer = buffer }) ++ take rest later ≡ shown (inputOf input))
+text-is-shown buffer later rest ensured = ensured
+
+-- Each sheet is shown in its place, with its index from 1, as far as 64 bits hold.
+pub shown-in-place : (before : List (List ℕ)) (sheet : List ℕ) (behind : List (List ℕ))
+    → shownTexts 0 (before ++ sheet ∷ behind)
+    ≡ shownTexts 0 before ++ shownText (min greatest (length before + 1)) sheet ∷ shownTexts (min greatest (length before + 1)) behind
+shown-in-place = indexed

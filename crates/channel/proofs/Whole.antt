@@ -26,23 +26,23 @@ module _ (buffer file input : List ℕ) where
 
   -- the record's line, the sheets' lines, the route's line
   abbrev in-turn : Lines
-  in-turn = sheetsAndRoute (recordLevel file) input (withLine (levelsLineOf (recordCounts file)) first)
+  in-turn = sheetsAndRoute (recordLevel file) input (withLine lineBytes (levelsLineOf (recordCounts file)) first)
 
-  all-in-turn : withLines (linesOf file input) first ≡ in-turn
+  all-in-turn : withLines lineBytes (linesOf file input) first ≡ in-turn
   unfolding withLines
   all-in-turn =
-      lines-in-two (sheetLines (recordLevel file) noSheets (sheetsOf input)) (routeLineOf (routeAfter (recordLevel file) noSheets (sheetsOf input)) ∷ [])
-      (withLine (levelsLineOf (recordCounts file)) first)
+      lines-in-two lineBytes (sheetLines (recordLevel file) noSheets (sheetsOf input)) (routeLineOf (routeAfter (recordLevel file) noSheets (sheetsOf input)) ∷ [])
+      (withLine lineBytes (levelsLineOf (recordCounts file)) first)
 
-  in-order : lineBytes ≤ length buffer → (l : Lines) → l ≡ in-turn → written (linesOf file input) first ++ standing l ≡ printed file input
+  in-order : lineBytes ≤ length buffer → (l : Lines) → l ≡ in-turn → written lineBytes (linesOf file input) first ++ standing l ≡ printed file input
   unfolding printed
-  in-order space l e = ap (λ (m : Lines). written (linesOf file input) first ++ standing m) (e ∙ sym all-in-turn) ∙ all-lines (linesOf file input) first space
+  in-order space l e = ap (λ (m : Lines). written lineBytes (linesOf file input) first ++ standing m) (e ∙ sym all-in-turn) ∙ all-lines lineBytes (linesOf file input) first space
 
 module _ (buffer : List ℕ) (space : lineBytes ≤ length buffer) where
   levels-put : (counts : Counts) (at : ℕ) (later : List ℕ) → at ≡ placeAfter (levelsLineOf counts) 0 buffer → later ≡ bufferAfter (levelsLineOf counts) 0 buffer
-      → _≡_ {A = Lines} (record { at = at; buffer = later }) (withLine (levelsLineOf counts) (record { at = 0; buffer = buffer }))
+      → _≡_ {A = Lines} (record { at = at; buffer = later }) (withLine lineBytes (levelsLineOf counts) (record { at = 0; buffer = buffer }))
   levels-put counts at later =
-      line-put (levelsLineOf counts) (record { at = 0; buffer = buffer }) 0 at later (place-kept buffer 0 (le-leb lineBytes (length buffer) space))
+      line-put lineBytes (levelsLineOf counts) (record { at = 0; buffer = buffer }) 0 at later (place-kept lineBytes buffer 0 (le-leb lineBytes (length buffer) space))
 
   -- the three parts, one behind the other
   pub lines-put : (level : LevelRead) (counts : Counts) (at : ℕ) (after : List ℕ) (state : State) (printed-after : List ℕ) (rest : ℕ) (later : List ℕ)
@@ -52,8 +52,8 @@ module _ (buffer : List ℕ) (space : lineBytes ≤ length buffer) where
   unfolding sheetsPrinted
   lines-put level counts at after state printed-after rest later a b came r =
       brought inputBlock (InputPrinted level (atFirst at after) (progress state printed-after))
-      (λ (input : List ℕ). _≡_ {A = Lines} (record { at = rest; buffer = later }) (sheetsAndRoute level input (withLine (levelsLineOf counts) (record { at = 0; buffer = buffer }))))
-      (λ input i. r ∙ ap (λ (p : Progress). withLine (routeLineOf (p .route)) (p .lines)) i ∙ ap (sheetsAndRoute level input) (levels-put counts at after a b))
+      (λ (input : List ℕ). _≡_ {A = Lines} (record { at = rest; buffer = later }) (sheetsAndRoute level input (withLine lineBytes (levelsLineOf counts) (record { at = 0; buffer = buffer }))))
+      (λ input i. r ∙ ap (λ (p : Progress). withLine lineBytes (routeLineOf (p .route)) (p .lines)) i ∙ ap (sheetsAndRoute level input) (levels-put counts at after a b))
       came
 
   -- over a record
@@ -63,11 +63,11 @@ module _ (buffer : List ℕ) (space : lineBytes ≤ length buffer) where
   text-whole table counts level (Whole rest) later read l lines =
       brought fileBlock (FileAdded emptyTable counts table) (λ (file : List ℕ). ToItsEnd inputBlock (TextOf buffer rest later file))
       (λ file f. brought inputBlock
-      (λ (input : List ℕ). _≡_ {A = Lines} (record { at = rest; buffer = later }) (sheetsAndRoute level input (withLine (levelsLineOf counts) (record { at = 0; buffer = buffer }))))
+      (λ (input : List ℕ). _≡_ {A = Lines} (record { at = rest; buffer = later }) (sheetsAndRoute level input (withLine lineBytes (levelsLineOf counts) (record { at = 0; buffer = buffer }))))
       (TextOf buffer rest later file)
       (λ input put. in-order buffer file input space (record { at = rest; buffer = later })
       (put
-      ∙ ap₂ (λ (at-level : LevelRead) (counted : Counts). sheetsAndRoute at-level input (withLine (levelsLineOf counted) (record { at = 0; buffer = buffer })))
+      ∙ ap₂ (λ (at-level : LevelRead) (counted : Counts). sheetsAndRoute at-level input (withLine lineBytes (levelsLineOf counted) (record { at = 0; buffer = buffer })))
       (l ∙ ap designLevel (f .added)) (f .counted)))
       lines)
       read

@@ -4,4 +4,6 @@ pub mod Output
 pub mod Route
 pub mod Text
 pub mod Printing
+pub mod Showing
+pub mod Typing
 pub mod Starred

@@ -1,10 +1,11 @@
-// The printing program: levels.bin and sheets in, a line a sheet out (definition, section 10).
+// The program: sheets in, a line a sheet out (definition, section 10); and the words type, show and form (section 14).
 ghost use Prim.Native.Nat.{_≤_};
 ghost use lib.ListN.{length};
 ghost use Rattle.lines.specs.Lines.{lineBytes};
 ghost use Rattle.channel.specs.Printing.{LinesPrinted, TextPrinted};
 use crate::levels::Loaded;
 use gauge::LevelRead;
+use libc::STDERR_FILENO;
 use record::Counts;
 
 mod input;
@@ -12,6 +13,8 @@ mod levels;
 mod output;
 mod route;
 mod sheets;
+mod showing;
+mod typing;
 
 // The whole text, with so many bytes of it still in the buffer; or that it was cut short.
 enum Text {
@@ -19,15 +22,51 @@ enum Text {
     Cut,
 }
 
+// The bytes of the command's longest word, and some.
+const WORD: usize = 16;
+
 fn main() {
     let mut buffer = io::large_buffer();
-    let text = print(&mut buffer);
+    let mut space = [0u8; WORD];
+    let length = os::arg(1, &mut space);
+    let text = of_word(os::arg_count(), &space[..length], &mut buffer);
     match text {
         Text::Whole(rest) => {
             output::put_out(&buffer, rest);
         }
         Text::Cut => {}
     }
+}
+
+// Whether a word is another.
+fn same_word(word: &[u8], name: &[u8]) -> bool {
+    if word.len() != name.len() {
+        return false;
+    }
+    typed::begins_with(word, name)
+}
+
+// What the program's first word asks for; without one it prints.
+fn of_word(words: usize, word: &[u8], buffer: &mut [u8]) -> Text
+    requires { ⌜ 65536 ≤ length (now buffer) ⌝ }
+{
+    if words < 2 {
+        return print(buffer);
+    }
+    if same_word(word, b"type") {
+        return typing::type_all(buffer);
+    }
+    if same_word(word, b"show") {
+        return showing::show(buffer);
+    }
+    if same_word(word, b"form") {
+        return Text::Whole(texts::put_form(buffer, 0));
+    }
+    io::write_all(
+        STDERR_FILENO,
+        b"no such word: type, show and form are known\n",
+    );
+    Text::Cut
 }
 
 // The text of the record and the sheets.
@@ -51,7 +90,7 @@ fn print_lines(level: LevelRead, counts: Counts, buffer: &mut [u8]) -> Text
     let at = lines::put_levels_line(counts.added, counts.missing, counts.refused, buffer, 0);
     let printed = sheets::print_all(level, buffer, at);
     if !printed.whole {
-        sheets::print_cut(buffer, printed.state);
+        output::cut_short(buffer, printed.state.out);
         return Text::Cut;
     }
     let last = sheets::print_route(buffer, printed.state);

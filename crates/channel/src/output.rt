@@ -10,9 +10,9 @@ pub struct Out {
 }
 
 // Writes the buffer's first bytes; false where the output takes no more.
-fn write_first(buffer: &[u8], count: usize) -> bool {
+pub fn write_first(output: i32, buffer: &[u8], count: usize) -> bool {
     if count <= buffer.len() {
-        io::write_all(STDOUT_FILENO, &buffer[..count])
+        io::write_all(output, &buffer[..count])
     } else {
         false
     }
@@ -20,7 +20,7 @@ fn write_first(buffer: &[u8], count: usize) -> bool {
 
 // The same, and what is wrong with an output that takes no more is told; a closed one is left quietly.
 pub fn put_out(buffer: &[u8], count: usize) -> bool {
-    if write_first(buffer, count) {
+    if write_first(STDOUT_FILENO, buffer, count) {
         return true;
     }
     let error = os::errno();
@@ -30,13 +30,20 @@ pub fn put_out(buffer: &[u8], count: usize) -> bool {
     false
 }
 
-// Ready for a line: what stands in the buffer is written where too little is left.
-pub fn made_ready(buffer: &[u8], out: Out) -> Out
-    ensures { λ r. ⌜ r .at ≡ placeFor (now (buffer .entry)) (out .at) ⌝ }
+// Ready for a line that is given so much room: what stands in the buffer is written where less is left and the output takes it.
+pub fn made_ready(buffer: &[u8], out: Out, room: usize) -> Out
+    ensures { λ r. ⌜ r .at ≡ placeFor room (now (buffer .entry)) (out .at) ⌝ }
 {
-    if lines::line_fits(buffer.len(), out.at) {
+    if lines::fits(buffer.len(), out.at, room) {
         return out;
     }
-    let open = put_out(buffer, out.at);
+    let open = out.open && put_out(buffer, out.at);
     Out { at: 0, open }
+}
+
+// Where the input failed, what waits is written, and then that is told. A closed output is left quietly.
+pub fn cut_short(buffer: &[u8], out: Out) {
+    if out.open && put_out(buffer, out.at) {
+        os::fail(b"standard input");
+    }
 }

@@ -14,7 +14,7 @@ use gauge::LevelRead;
 use libc::STDIN_FILENO;
 
 // A whole number of sheets.
-const BLOCK: usize = 65520;
+pub const BLOCK: usize = 65520;
 
 const SHEET: usize = 28;
 
@@ -30,7 +30,7 @@ fn print_sheet(level: LevelRead, sheet: &[u8], buffer: &mut [u8], state: State) 
 {
     let so_far = state.route;
     let out = state.out;
-    let ready = output::made_ready(buffer, out);
+    let ready = output::made_ready(buffer, out, lines::LINE_BYTES);
     let answer = design::design_at(sheet, level);
     let route = route::with_sheet(so_far, answer);
     let numbers = design::numbers(answer);
@@ -45,7 +45,7 @@ fn print_sheet(level: LevelRead, sheet: &[u8], buffer: &mut [u8], state: State) 
 }
 
 // The end of the sheet that begins at a place of so many bytes: 28 on, or where they end.
-fn sheet_end(from: usize, bytes: usize) -> usize
+pub fn sheet_end(from: usize, bytes: usize) -> usize
     requires { ⌜ from < bytes ⌝ }
     ensures { λ r. ⌜ r ≡ from + min 28 (bytes - from) ⌝ }
 {
@@ -69,8 +69,8 @@ fn print_block(level: LevelRead, block: &[u8], buffer: &mut [u8], state: State) 
     now
 }
 
-// The bytes that are printed of what was filled: where a read failed, those of whole sheets.
-fn printed_of(filled: Filled) -> usize
+// The bytes that are printed or shown of what was filled: where a read failed, those of whole sheets.
+pub fn printed_of(filled: Filled) -> usize
     ensures { λ r. ⌜ r ≡ printedCount filled ⌝ }
 {
     if filled.failed {
@@ -142,18 +142,10 @@ pub fn print_route(buffer: &mut [u8], state: State) -> Out
 {
     let route = state.route;
     let out = state.out;
-    let ready = output::made_ready(buffer, out);
+    let ready = output::made_ready(buffer, out, lines::LINE_BYTES);
     let after = lines::put_route_line(route.sheets, route.answered, route.class, buffer, ready.at);
     Out {
         at: after,
         open: ready.open,
-    }
-}
-
-// Where the input failed, the lines so far are written, and then that is told. A closed output is left quietly.
-pub fn print_cut(buffer: &[u8], state: State) {
-    let out = state.out;
-    if out.open && output::put_out(buffer, out.at) {
-        os::fail(b"standard input");
     }
 }

@@ -14,7 +14,7 @@ use design::COUNT;
 const COUNTS: usize = 3;
 
 // The bytes that a line is given: a sheet's has at most 12 for each number and 21 for its index and the newline.
-const LINE_BYTES: usize = 12 * COUNT + 36;
+pub const LINE_BYTES: usize = 12 * COUNT + 36;
 
 // The bytes that a count is given.
 const COUNT_BYTES: usize = 20;

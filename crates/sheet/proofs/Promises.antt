@@ -7,12 +7,14 @@ use lib.ListN.{length, take, drop}
 use Rattle.laws.specs.Extremes.{Least}
 use Rattle.laws.specs.Rows.{NoneBefore, Exactly}
 use Rattle.laws.proofs.Unique.{one-answer}
-use Rattle.sheet.specs.Fields.{count, nth, least, greatest, Bad}
+use Rattle.sheet.specs.Fields.{count, nth, least, greatest, rangeOf, standingOf, Bad}
 use Rattle.sheet.specs.Packing.{size, groupsOf, figuresIn, bytesOf, bitsOfBytes, bitsOfGroups, Bytes, SpareSet}
 use Rattle.sheet.specs.Sheets.{figuresOf, sheetFrom, readOf, writtenOf, placeOf, Valid, Written}
 use Rattle.sheet.specs.Refusals.{readRows, writtenRows, readFaultNumber, readFaultField, readNumber, readField, writeFaultNumber, writeFaultField, writtenNumber, writtenField}
 use Rattle.sheet.specs.CaseS.{sheetS, bytesS}
+use Rattle.sheet.specs.declared.Range.{Range}
 use Rattle.sheet.specs.declared.Sheet.{Sheet}
+use Rattle.sheet.specs.declared.Standing.{Standing}
 use Rattle.sheet.specs.declared.ReadFault.{ReadFault}
 use Rattle.sheet.specs.declared.SheetRead.{SheetRead}
 use Rattle.sheet.specs.declared.SheetRead.the-variants.{Good}
@@ -142,6 +144,12 @@ figures-unique s = one-answer
 
 pub sheet-unique : (figures : List ℕ) (r t : SheetRead) → r ≡ sheetFrom figures → t ≡ sheetFrom figures → r ≡ t
 sheet-unique figures = one-answer
+
+pub range-unique : (k : ℕ) (r t : Range) → r ≡ rangeOf k → t ≡ rangeOf k → r ≡ t
+range-unique k = one-answer
+
+pub standing-unique : (figures : List ℕ) (k : ℕ) (r t : Standing) → r ≡ standingOf figures k → t ≡ standingOf figures k → r ≡ t
+standing-unique figures k = one-answer
 
 pub write-unique : (s : Sheet) (place : List ℕ) (r t : SheetWritten) → r ≡ writtenOf s place → t ≡ writtenOf s place → r ≡ t
 write-unique s place = one-answer

@@ -2,37 +2,48 @@
 use mathlib.Core.Path.{_≡_, sym, _∙_}
 use mathlib.Core.Bool.{true, false}
 use mathlib.Core.List.{List, [], _∷_, flatten, List·Memᴰ}
-use mathlib.Core.Logic.{_↔_, _≢_}
-use Prim.Native.Nat.{ℕ, _+_, _*_, _≤_, _<_}
-use lib.ListN.{length}
+use mathlib.Core.Logic.{_↔_, _⊎_, _≢_}
+use Prim.Native.Nat.{ℕ, _+_, _-_, _*_, _^_, _≤_, _<_}
+use lib.ListN.{length, getD}
+use Rattle.laws.specs.Choice.{if_then_else_}
 use Rattle.laws.specs.Each.{Each}
+use Rattle.laws.specs.Rows.{Exactly}
 use Rattle.laws.proofs.Unique.{one-answer}
 use Rattle.lines.specs.Lines.{placeWithin, bufferWithin}
-use Rattle.sheet.specs.Fields.{field}
+use Rattle.sheet.specs.CaseS.{sheetS, bytesS}
+use Rattle.sheet.specs.Fields.{field, count as fieldCount}
 use Rattle.sheet.specs.Packing.{Bytes}
 use Rattle.sheet.specs.Sheets.{figuresOf, readOf}
 use Rattle.sheet.specs.declared.ReadFault.{ReadFault}
 use Rattle.sheet.specs.declared.Sheet.{Sheet}
 use Rattle.sheet.specs.declared.SheetRead.the-variants.{Good, NoSheet}
-use Rattle.typed.specs.Rows.{count, levelRow}
+use Rattle.typed.specs.Rows.{bytesOf, count, levelRow}
 use Rattle.typed.specs.Lines.{lineText}
 use Rattle.typed.specs.Reading.{named}
-use Rattle.texts.specs.Messages.{messageBytes, messageText}
+use Rattle.texts.specs.Cutting.{linesOf, bare, beginsSheet}
+use Rattle.texts.specs.Messages.{messageBytes, quotedText, stoodText, messageText}
 use Rattle.texts.specs.Shown.{rowFigure, shownBytes, shownText, formBytes, formText, sheetBytes, sheetText}
-use Rattle.texts.specs.Steps.{faultNumber}
+use Rattle.texts.specs.Steps.{faultNumber, step, stepOf}
 use Rattle.texts.specs.Texts.{beginning, happenedIn, nextOf, allOf}
-use Rattle.texts.specs.Typed.{kept, allFrom, sheetsOf, Faultless, typedBytes, sheetLines, Titled, linesOfAll, figuresOfAll, SheetFigures, Proper, TypedAs, TypedAndRead, textOf, OneLine, IsSheet, shownAll}
+use Rattle.texts.specs.Typed.{kept, allFrom, beginnings, sheetsOf, Faultless, typedBytes, sheetLines, Titled, linesOfAll, figuresOfAll, SheetFigures, Proper, TypedAs, TypedAndRead, eventNumber, lineRows, RefusedAt, messagesOf, LineKind, PlaceIn, textOf, OneLine, IsSheet, shownAll}
 use Rattle.texts.specs.declared.Cursor.{Cursor}
+use Rattle.texts.specs.declared.Event.the-variants.{Nothing}
 use Rattle.texts.specs.declared.Found.{Found}
 use Rattle.texts.specs.declared.LineFault.{LineFault}
 use Rattle.texts.specs.declared.Place.{Place}
+use Rattle.texts.specs.declared.Stage.the-variants.{Between, InRow, Skipping}
 use Rattle.texts.proofs.meaning.Again.{one-typed, one-again, one-refused, typed-again, shown-exactly}
 use Rattle.texts.proofs.meaning.Complete.{row-before-field, row-last, row-record, row-level, complete-text}
+use Rattle.texts.proofs.meaning.Faults.{no-bytes, number-within, number-one, all-places, stood-there}
+use Rattle.texts.proofs.meaning.Form.{form-refused}
+use Rattle.texts.proofs.meaning.Numbers.{number-exactly, number-1-exactly, skipped, refused-once}
 use Rattle.texts.proofs.meaning.Ones.{same-sheets, same-faultless, same-bytes, figures-of-lines, figures-of-bytes, sheets-of-bytes}
 use Rattle.texts.proofs.meaning.Places.{typed-and-read, text-sizes, named-line}
-use Rattle.texts.proofs.meaning.Wholes.{faultless-exactly, one-way, each-fine, LineKind, each-line}
-use Rattle.texts.proofs.meaning.Writing.{written-typed}
+use Rattle.texts.proofs.meaning.Sample.{textOfS, textNoFigure, textMissing, typed-s, bytes-s, message-2, message-6, message-8}
+use Rattle.texts.proofs.meaning.Sizes.{sheet-fits, form-fits, shown-fits, message-fits}
 use Rattle.texts.proofs.meaning.Stepping.{all-next, all-over, moves-on, all-from-beginning}
+use Rattle.texts.proofs.meaning.Wholes.{faultless-exactly, one-way, each-fine, each-line, one-each}
+use Rattle.texts.proofs.meaning.Writing.{written-typed}
 
 -- Reading by steps: all that a text brings is all from its beginning on.
 pub all-from-its-beginning : (text : List ℕ) → allOf text ≡ allFrom text beginning
@@ -63,9 +74,13 @@ sheets-as-typed text sheets t = complete-text text sheets t .1
 pub typed-one-way : (text : List ℕ) (sheets others : List Titled) → TypedAs text sheets → TypedAs text others → sheets ≡ others
 typed-one-way = one-way
 
--- Each figures of an accepted text are a sheet's: one for each field, and none bad.
+-- The figures of each of them are a sheet's: one for each field, and none bad.
 pub sheets-are-fine : (text : List ℕ) → Faultless text → Each SheetFigures (sheetsOf (allOf text))
 sheets-are-fine = each-fine
+
+-- There is one for each line that begins one.
+pub one-for-each-beginning : (text : List ℕ) → Faultless text → length (sheetsOf (allOf text)) ≡ beginnings (kept text)
+one-for-each-beginning = one-each
 
 -- The promise to the engineer: sheet by sheet, the bytes are read as a sheet, and on the line of each row stands that sheet's figure.
 pub typed-as-read : (text : List ℕ) → Faultless text → (j : ℕ) → j < length (sheetsOf (allOf text)) → TypedAndRead text j
@@ -143,6 +158,61 @@ all-shown-exactly = shown-exactly
 pub all-shown-and-typed : (index : ℕ) (all : List (List ℕ)) → Each IsSheet all → Each Bytes all → typedBytes (shownAll index all) ≡ flatten all
 all-shown-and-typed = typed-again
 
+-- The empty form is turned away until it is filled in.
+pub form-turned-away : Faultless formText → ⊥
+form-turned-away = form-refused
+
+-- Numbers 2 to 9: where a row was to stand, a number is told exactly when it holds and none before it does, and none where none holds.
+pub turned-away : (figures : List ℕ) (k : ℕ) (line : List ℕ) → k < count → length figures ≡ fieldCount
+    → Exactly (lineRows k figures line) (eventNumber (stepOf (InRow k) figures line .event))
+turned-away = number-exactly
+
+-- 1: where no sheet is begun, a line that begins none.
+pub turned-away-1 : (figures line : List ℕ) → (eventNumber (stepOf Between figures line .event) ≡ 1) ↔ (beginsSheet line ≡ false)
+turned-away-1 = number-1-exactly
+
+-- A fault names the row that was to stand there, and the lines behind it are passed over.
+pub turned-away-once : (figures : List ℕ) (k : ℕ) (line : List ℕ) → beginsSheet line ≡ false
+    → (eventNumber (stepOf (InRow k) figures line .event) ≡ 0) ⊎ RefusedAt k (stepOf (InRow k) figures line)
+turned-away-once = refused-once
+
+pub passed-over-behind : (figures line : List ℕ) → beginsSheet line ≡ false → stepOf Skipping figures line ≡ step Skipping figures Nothing
+passed-over-behind = skipped
+
+-- No bytes of a text with a fault.
+pub no-bytes-of-a-fault : (text : List ℕ) → (Faultless text → ⊥) → typedBytes text ≡ []
+no-bytes-of-a-fault = no-bytes
+
+-- Each fault has a number of its own, from 1 to 9.
+pub fault-numbers : (fault : LineFault) → (1 ≤ faultNumber fault) × (faultNumber fault ≤ 9)
+fault-numbers = number-within
+
+pub fault-of-number : (fault other : LineFault) → faultNumber fault ≡ faultNumber other → fault ≡ other
+fault-of-number = number-one
+
+-- Whatever is found is told at its place: by the number of its line and that line's bytes, or behind the last line.
+pub found-at-its-place : (text : List ℕ) → length (linesOf text) < 4294967295 → Each (λ f. PlaceIn text (f .place)) (allOf text)
+found-at-its-place = all-places
+
+-- A message quotes the line of its number, or says that the text ends.
+pub message-quotes-its-line : (text : List ℕ) (place : Place) → PlaceIn text place
+    → stoodText text place ≡ (if place .ended then bytesOf "the text ends" else quotedText (bare (getD (linesOf text) (place .line - 1) [])))
+message-quotes-its-line = stood-there
+
+-- No text is longer than the bytes that it is given: a message than 1,024, a shown sheet than 4,096, the form than 20,000, a sheet than 28.
+pub message-fits-room : (text : List ℕ) (fault : LineFault) (row : ℕ) (place : Place) → place .line < 2 ^ 64
+    → length (messageText text fault row place) ≤ messageBytes
+message-fits-room = message-fits
+
+pub shown-fits-room : (index : ℕ) (bytes : List ℕ) → index < 2 ^ 64 → length (shownText index bytes) ≤ shownBytes
+shown-fits-room = shown-fits
+
+pub form-fits-room : length formText ≤ formBytes
+form-fits-room = form-fits
+
+pub sheet-fits-room : (figures : List ℕ) → length (sheetText figures) ≤ sheetBytes
+sheet-fits-room = sheet-fits
+
 -- One result of each call, and one later content of the buffer.
 pub next-unique : (text : List ℕ) (cursor : Cursor) (r s : Found) → r ≡ nextOf text cursor → s ≡ nextOf text cursor → r ≡ s
 next-unique text cursor = one-answer
@@ -190,3 +260,23 @@ pub sheet-buffer-unique : (figures : List ℕ) (at : ℕ) (buffer now later : Li
     → now ≡ bufferWithin sheetBytes (sheetText figures) at buffer → later ≡ bufferWithin sheetBytes (sheetText figures) at buffer
     → now ≡ later
 sheet-buffer-unique figures at buffer = one-answer
+
+-- Case S: its text, line by line, is accepted, and its bytes are those of S.
+pub starred-text : Faultless (bytesOf textOfS) × (sheetsOf (allOf (bytesOf textOfS)) ≡ figuresOf sheetS ∷ [])
+starred-text = typed-s
+
+pub starred-bytes : typedBytes (bytesOf textOfS) ≡ bytesS
+starred-bytes = bytes-s
+
+-- The messages of the definition: a figure that is none, and a row that is missing; and a figure outside its range.
+pub starred-no-figure : messagesOf (bytesOf textNoFigure)
+    ≡ bytesOf "line 18: T6 no such figure: \"cross-current 1 kn\"; expected: cross-current 0.0 kn .. cross-current 6.0 kn\n" ∷ []
+starred-no-figure = message-6
+
+pub starred-missing : messagesOf (bytesOf textMissing)
+    ≡ bytesOf "line 30: T2 a row is missing: the text ends; expected: side-slope 0 m/m .. side-slope 30 m/m\n" ∷ []
+starred-missing = message-2
+
+pub starred-outside : messagesOf (bytesOf "sheet\ndeadweight 0 t\n")
+    ≡ bytesOf "line 2: T8 outside its range: \"deadweight 0 t\"; expected: deadweight 1 t .. deadweight 600000 t\n" ∷ []
+starred-outside = message-8

@@ -10,3 +10,8 @@ pub mod Wholes
 pub mod Writing
 pub mod Again
 pub mod Ones
+pub mod Faults
+pub mod Numbers
+pub mod Form
+pub mod Sizes
+pub mod Sample

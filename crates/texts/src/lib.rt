@@ -12,6 +12,11 @@ mod putting;
 mod showing;
 mod steps;
 
+// The bytes of a sheet, and those that a shown one is given.
+pub const SHEET_BYTES: usize = 28;
+
+pub const SHOWN_BYTES: usize = 4096;
+
 // Where a reader stands in a sheet: in none, before the row after the first so many, or behind a fault.
 pub enum Stage {
     Between,
@@ -130,7 +135,7 @@ pub fn put_message(
 pub fn put_shown(index: u64, bytes: &[u8], buffer: &mut [u8], at: usize) -> usize
     ensures { λ r. ⌜ (r ≡ placeWithin shownBytes (shownText index (now (bytes .entry))) at (now (buffer .entry))) × (now (buffer .exit) ≡ bufferWithin shownBytes (shownText index (now (bytes .entry))) at (now (buffer .entry))) ⌝ }
 {
-    if !lines::fits(buffer.len(), at, showing::ROOM) {
+    if !lines::fits(buffer.len(), at, SHOWN_BYTES) {
         return at;
     }
     showing::put_sheet(index, bytes, buffer, at)
@@ -150,7 +155,7 @@ pub fn put_form(buffer: &mut [u8], at: usize) -> usize
 pub fn put_sheet(figures: [u32; sheet::COUNT], buffer: &mut [u8], at: usize) -> usize
     ensures { λ r. ⌜ (r ≡ placeWithin sheetBytes (sheetText figures) at (now (buffer .entry))) × (now (buffer .exit) ≡ bufferWithin sheetBytes (sheetText figures) at (now (buffer .entry))) ⌝ }
 {
-    if !lines::fits(buffer.len(), at, showing::SHEET) {
+    if !lines::fits(buffer.len(), at, SHEET_BYTES) {
         return at;
     }
     showing::put_figures(figures, buffer, at)

@@ -4,6 +4,7 @@ ghost use Prim.Native.Nat.{_+_, _*_, _≤_, _<_};
 ghost use lib.ListN.{length};
 ghost use Rattle.lines.specs.Lines.{Put};
 ghost use Rattle.texts.specs.Shown.{rowFigure, rowLine, rowsText, refusedText, readText, shownText, formRow, formText, sheetText};
+use crate::SHEET_BYTES;
 use crate::putting;
 use sheet::ReadFault;
 use sheet::SheetRead;
@@ -98,7 +99,7 @@ pub fn put_figures(figures: [u32; sheet::COUNT], buffer: &mut [u8], at: usize) -
     match made {
         SheetRead::Good(sheet) => {
             sheet::write(sheet, &mut buffer[at..]);
-            at + SHEET
+            at + SHEET_BYTES
         }
         SheetRead::NoSheet(_) => at,
     }

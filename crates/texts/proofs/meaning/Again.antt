@@ -2,21 +2,20 @@
 use mathlib.Core.Path.{_≡_, refl, ap, sym, _∙_}
 use mathlib.Core.Bool.{Bool, true, false}
 use mathlib.Core.List.{List, [], _∷_, _++_, map, flatten, append-assoc, append-nil, List·Memᴰ, List·Memᴰ·head, List·Memᴰ·tail, Memᴰ·append-right}
-use mathlib.Core.Logic.{_↔_, _⊎_, inl, inr}
+use mathlib.Core.Logic.{_↔_}
 use Prim.Native.Nat.{ℕ, zero, suc, _+_, _≤_, _<_}
 use native.Mathlib.Omega.{arith}
 use borrow.Author.Tests.{ne-eqb}
 use lib.Dec.{T}
-use lib.ListN.{length, length-append}
+use lib.ListN.{length}
 use Rattle.laws.proofs.Each.{each-append, each-implied}
 use Rattle.laws.proofs.Every.{every-at}
 use Rattle.laws.proofs.Never.{never}
-use Rattle.laws.specs.Choice.{if_then_else_}
 use Rattle.laws.specs.Each.{Each, _&_}
 use Rattle.laws.specs.Every.{every}
 use Rattle.lines.specs.Decimals.{countText}
 use Rattle.lines.proofs.decimals.Texts.{DigitByte, count-bytes}
-use Rattle.sheet.specs.Packing.{Bytes, bytesOf as packedOf}
+use Rattle.sheet.specs.Packing.{Bytes}
 use Rattle.sheet.specs.Refusals.{readFaultNumber, readFaultField}
 use Rattle.sheet.specs.Sheets.{figuresOf, readOf, Valid}
 use Rattle.sheet.specs.declared.ReadFault.{ReadFault}
@@ -30,14 +29,13 @@ use Rattle.typed.specs.Lines.{token, nameText, lineText}
 use Rattle.typed.specs.Reading.{stands, named}
 use Rattle.typed.proofs.Promises.{has-own-name}
 use Rattle.typed.proofs.meaning.Fronts.{differs, differ-stands, front-stands}
-use Rattle.texts.specs.Cutting.{newline, space, passedOver, beginsSheet}
+use Rattle.texts.specs.Cutting.{newline, space, beginsSheet}
 use Rattle.texts.specs.Shown.{rowFigure, rowLine, rowsText, refusedText, readText, shownText, sheetText}
 use Rattle.texts.specs.Texts.{allOf}
-use Rattle.texts.specs.Typed.{kept, sheetsOf, Faultless, typedBytes, rowLines, sheetLines, Titled, linesOfAll, figuresOfAll, SheetFigures, Proper, TypedAs, textOf, OneLine, IsSheet, shownAll}
+use Rattle.texts.specs.Typed.{kept, sheetsOf, Faultless, typedBytes, rowLines, sheetLines, Titled, linesOfAll, figuresOfAll, SheetFigures, Proper, TypedAs, textOf, LineKind, begins, row, OneLine, IsSheet, shownAll}
 use Rattle.texts.proofs.meaning.Complete.{complete-text}
 use Rattle.texts.proofs.meaning.Places.{its-bytes, bytes-of-text}
-use Rattle.texts.proofs.meaning.Sound.{sound-text}
-use Rattle.texts.proofs.meaning.Wholes.{LineKind, begins, row, each-line}
+use Rattle.texts.proofs.meaning.Wholes.{each-line}
 use Rattle.texts.proofs.meaning.Writing.{Stays, kept-of-text, printed-line, letter-kept, sheet-stays, title-kept}
 
 -- the line that begins the sheet of an index
@@ -80,7 +78,7 @@ with-newline : (line first second : List ℕ) → ((line ++ newline ∷ []) ++ f
 with-newline line first second = append-assoc (line ++ newline ∷ []) first second ∙ append-assoc line (newline ∷ []) (first ++ second)
 
 -- the shown text is that of its lines
-pub shown-lines : (index : ℕ) (all : List (List ℕ)) → shownAll index all ≡ textOf (linesShown index all)
+shown-lines : (index : ℕ) (all : List (List ℕ)) → shownAll index all ≡ textOf (linesShown index all)
 unfolding shownAll shownText textOf
 shown-lines index [] = refl
 shown-lines index (bytes ∷ rest) =
@@ -96,12 +94,12 @@ title-printed index =
     each-append (λ (b : ℕ). 32 ≤ b) (bytesOf "sheet ") (countText index)
     (omega arith & omega arith & omega arith & omega arith & omega arith & omega arith & tt) (digits-printed index)
 
-pub title-begins : (index : ℕ) → beginsSheet (titleOf index) ≡ true
+title-begins : (index : ℕ) → beginsSheet (titleOf index) ≡ true
 unfolding beginsSheet
 title-begins index =
     rw (ne-eqb (length (titleOf index)) 5 (λ (e : length (titleOf index) ≡ 5). omega arith)) (front-stands (bytesOf "sheet ") (countText index))
 
-pub title-one-line : (index : ℕ) → OneLine (titleOf index)
+title-one-line : (index : ℕ) → OneLine (titleOf index)
 title-one-line index = printed-line (titleOf index) (title-printed index)
 
 title-stays : (index : ℕ) → Stays (titleOf index)
@@ -153,7 +151,7 @@ shown-stay index (bytes ∷ rest) = (
 )
 
 -- so these are the kept lines of the shown text
-pub kept-shown : (index : ℕ) (all : List (List ℕ)) → kept (shownAll index all) ≡ linesShown index all
+kept-shown : (index : ℕ) (all : List (List ℕ)) → kept (shownAll index all) ≡ linesShown index all
 kept-shown index all = rw (shown-lines index all) (kept-of-text (linesShown index all) (shown-stay index all))
 
 -- bytes that are sheets, as typed sheets
@@ -167,7 +165,7 @@ shown-as-typed index [] p = refl
 shown-as-typed index (bytes ∷ rest) p = rw (p .0 .1, shown-as-typed (index + 1) rest (p .1))
 
 -- the figures of a sheet that was read
-read-fine : (bytes : List ℕ) (s : Sheet) → readOf bytes ≡ Good s → SheetFigures (figuresOf s)
+pub read-fine : (bytes : List ℕ) (s : Sheet) → readOf bytes ≡ Good s → SheetFigures (figuresOf s)
 unfolding figuresOf Valid
 read-fine bytes s e = record { each-field = refl; none-bad = read-valid bytes s e }
 
@@ -179,7 +177,7 @@ each-read-fine index (bytes ∷ rest) p = (
 )
 
 -- their text is typed as those sheets
-pub shown-typed-as : (index : ℕ) (all : List (List ℕ)) (p : Each IsSheet all) → TypedAs (shownAll index all) (titledAll index all p)
+shown-typed-as : (index : ℕ) (all : List (List ℕ)) (p : Each IsSheet all) → TypedAs (shownAll index all) (titledAll index all p)
 shown-typed-as index all p = record { lines = kept-shown index all ∙ shown-as-typed index all p; each-proper = each-read-fine index all p }
 
 -- and its bytes are those that were shown

@@ -1,35 +1,31 @@
 -- A text whose kept lines are those of some sheets has no fault, and these are its sheets.
 -- By going down the sheets and, in each, down its rows.
 use mathlib.Core.Path.{_≡_, refl, ap, sym, _∙_}
-use mathlib.Core.Bool.{Bool, true, false, _||_, _&&_, not}
+use mathlib.Core.Bool.{Bool, true, false, _||_, not}
 use mathlib.Core.List.{List, [], _∷_, _++_}
-use mathlib.Core.Logic.{_↔_}
 use Prim.Native.Nat.{ℕ, zero, suc, _+_, _-_, _%_, _≤_, _<_}
 use native.Mathlib.Omega.{arith}
 use borrow.Author.Tests.{lt-ltb, le-ltb, eq-eqb, ne-eqb, eqb-true, eqb-false, ltb-true, ltb-false}
 use lib.Dec.{ltb, eqb}
-use lib.ListN.{length, getD, set, length-set}
-use lib.Seq.{ext-getD, getD-set-same, getD-set-other}
+use lib.ListN.{length}
+use lib.Seq.{ext-getD, getD-set-same}
 use Rattle.laws.proofs.Never.{never}
 use Rattle.laws.specs.Choice.{if_then_else_, _<ᵇ_, _=ᵇ_}
 use Rattle.laws.specs.Each.{Each}
-use Rattle.sheet.specs.Fields.{nth, field, fields, fieldAt, least, greatest, rangeOf, pairBad, badAt, standingOf, count as fieldCount}
-use Rattle.sheet.specs.declared.Standing.the-variants.{Fine}
+use Rattle.sheet.specs.Fields.{nth, field, fields, fieldAt, least, greatest, rangeOf, pairBad, badAt, count as fieldCount}
 use Rattle.typed.specs.Rows.{bytesOf, count, levelRow, valuesOf}
 use Rattle.typed.specs.Lines.{lineText}
-use Rattle.typed.specs.Reading.{stands, entryOf}
-use Rattle.typed.specs.declared.Entry.the-variants.{Figure}
+use Rattle.typed.specs.Reading.{stands}
 use Rattle.typed.proofs.Promises.{line-says-figure, no-titled-sheet-line}
 use Rattle.typed.proofs.meaning.Names.{begins-no-sheet}
 use Rattle.texts.specs.Cutting.{beginsSheet}
 use Rattle.texts.specs.Shown.{rowFigure}
-use Rattle.texts.specs.Steps.{stored, fieldOf, step, acceptedBy, acceptedIn, rowStepBy, rowStep, missingAt, otherStep, stepOf}
+use Rattle.texts.specs.Steps.{stored, fieldOf, step, acceptedIn, rowStep, stepOf}
 use Rattle.texts.specs.Texts.{beginning, allOf}
-use Rattle.texts.specs.Typed.{kept, sheetsOf, Faultless, rowLines, sheetLines, Titled, linesOfAll, figuresOfAll, SheetFigures, Proper, TypedAs}
+use Rattle.texts.specs.Typed.{sheetsOf, Faultless, rowLines, sheetLines, Titled, linesOfAll, figuresOfAll, SheetFigures, Proper, TypedAs}
 use Rattle.texts.specs.declared.Event.the-variants.{Nothing, Sheet}
 use Rattle.texts.specs.declared.Stage.{Stage}
 use Rattle.texts.specs.declared.Stage.the-variants.{Between, InRow}
-use Rattle.texts.specs.declared.steps.Step.{Step}
 use Rattle.texts.proofs.meaning.Filling.{RowCase, before-level, at-level, behind-level, row-case, filled, field-of, Agree, stored-length, stored-before, stored-before-level, source-stored, level-stored, last-stored, bad-same, not-bad-fine, not-bad-within, level-within, first-none-bad}
 use Rattle.texts.proofs.meaning.Keeping.{Clear, sheetsFrom, sheets-of-text, faultless-clear}
 use Rattle.texts.proofs.meaning.Sound.{rowDone, begin-step, other-step}
@@ -60,7 +56,7 @@ source-within v fine = not-bad-within v 26 fine
 
 -- the level's figure gives back its two fields
 module _ (v : List ℕ) (source : badAt v 26 ≡ false) (given : badAt v 27 ≡ false) where
-  pub source-back : (if rowFigure v levelRow =ᵇ 0 then 0 else 1) ≡ nth v 26
+  source-back : (if rowFigure v levelRow =ᵇ 0 then 0 else 1) ≡ nth v 26
   unfolding rowFigure
   source-back = go (eqb (nth v 26) 0) refl
     where
@@ -70,7 +66,7 @@ module _ (v : List ℕ) (source : badAt v 26 ≡ false) (given : badAt v 27 ≡ 
           let some : nth v 26 ≡ 0 → ⊥ = eqb-false (nth v 26) 0 p in
           rw (ne-eqb (nth v 27 % 65536 + 1) 0 (λ (e : nth v 27 % 65536 + 1 ≡ 0). omega arith)) (omega (arith, source-within v source))
 
-  pub level-figure-back : rowFigure v levelRow - 1 ≡ nth v 27
+  level-figure-back : rowFigure v levelRow - 1 ≡ nth v 27
   unfolding rowFigure
   level-figure-back = go (eqb (nth v 26) 0) refl
     where
@@ -79,7 +75,7 @@ module _ (v : List ℕ) (source : badAt v 26 ≡ false) (given : badAt v 27 ≡ 
       go false p = omega (arith, level-within v given)
 
 -- the figures of the other rows are those of their fields
-pub row-before : (v : List ℕ) (k : ℕ) → k < levelRow → rowFigure v k ≡ nth v k
+row-before : (v : List ℕ) (k : ℕ) → k < levelRow → rowFigure v k ≡ nth v k
 unfolding rowFigure
 row-before v k l = rw (lt-ltb k levelRow l)
 
@@ -154,7 +150,7 @@ module _ (v : List ℕ) (fine : (j : ℕ) → j < fieldCount → badAt v j ≡ f
           rw (e, i) (last-stored figures (rowFigure v 27) long ∙ row-last v)
 
   -- a row filled with its figure of v agrees with v so far
-  pub fills : (figures : List ℕ) (k : ℕ) → k < count → length figures ≡ fieldCount → Agree (filled k) figures v
+  fills : (figures : List ℕ) (k : ℕ) → k < count → length figures ≡ fieldCount → Agree (filled k) figures v
       → Agree (filled (k + 1)) (stored figures k (rowFigure v k)) v
   fills figures k h long past j l = go (ltb j (filled k)) refl
     where
@@ -163,7 +159,7 @@ module _ (v : List ℕ) (fine : (j : ℕ) → j < fieldCount → badAt v j ≡ f
       go false p = fills-here figures k h long j (ltb-false j (filled k) p) l
 
   -- the line of a row's figure is read as that figure, and it stands well
-  pub row-reads : (figures : List ℕ) (k : ℕ) → k < count → length figures ≡ fieldCount → Agree (filled k) figures v
+  row-reads : (figures : List ℕ) (k : ℕ) → k < count → length figures ≡ fieldCount → Agree (filled k) figures v
       → stepOf (InRow k) figures (lineText k (rowFigure v k)) ≡ rowDone (stored figures k (rowFigure v k)) k
   unfolding rowStep acceptedIn
   row-reads figures k h long past =
@@ -193,7 +189,7 @@ module _ (v : List ℕ) (fine : (j : ℕ) → j < fieldCount → badAt v j ≡ f
         (rows-read m (k + 1) (stored figures k n) rest (omega arith) (stored-length figures k n h ∙ long) (fills figures k h long past)))
 
     -- a whole sheet with the line that begins it
-    pub sheet-read : (figures title : List ℕ) (rest : List (List ℕ)) → length figures ≡ fieldCount → beginsSheet title ≡ true
+    sheet-read : (figures title : List ℕ) (rest : List (List ℕ)) → length figures ≡ fieldCount → beginsSheet title ≡ true
         → Brings Between figures (title ∷ (sheetLines v ++ rest)) v rest
     unfolding sheetLines
     sheet-read figures title rest long begins =

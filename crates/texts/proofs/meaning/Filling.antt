@@ -1,24 +1,21 @@
 -- The fields of a sheet, filled row by row: what a row's figure changes, what it leaves, and when the fields are fine.
 use mathlib.Core.Path.{_≡_, refl, ap, sym, _∙_}
-use mathlib.Core.Bool.{Bool, true, false, _||_, _&&_, not, Bool·beq, true≢false}
-use mathlib.Core.List.{List, [], _∷_}
-use mathlib.Core.Logic.{_↔_, _≢_}
-use Prim.Native.Nat.{ℕ, zero, suc, _+_, _-_, _/_, _%_, _≤_, _<_}
+use mathlib.Core.Bool.{Bool, true, false, _||_, _&&_, not, Bool·beq}
+use mathlib.Core.List.{List}
+use Prim.Native.Nat.{ℕ, _+_, _-_, _/_, _%_, _≤_, _<_}
 use native.Mathlib.Omega.{arith}
-use borrow.Author.Tests.{lt-ltb, le-ltb, lt-leb, eq-eqb, ne-eqb, ltb-true, ltb-false, eqb-true, eqb-false}
+use borrow.Author.Tests.{lt-ltb, lt-leb, ltb-true, ltb-false, eqb-true, eqb-false}
 use lib.Dec.{ltb, eqb}
-use lib.ListN.{length, getD, set, length-set}
+use lib.ListN.{length, set, length-set}
 use lib.Seq.{getD-set-same, getD-set-other}
 use Rattle.laws.proofs.First.{is-none, none-is}
 use Rattle.laws.proofs.Never.{never}
 use Rattle.laws.specs.Choice.{if_then_else_, _<ᵇ_, _=ᵇ_}
-use Rattle.sheet.specs.Fields.{fields, fieldAt, nth, least, greatest, outsideAt, pairBad, badAt, standingOf, firstBad, rangeOf, count as fieldCount}
-use Rattle.sheet.specs.declared.Standing.{Standing}
+use Rattle.sheet.specs.Fields.{fields, fieldAt, nth, least, greatest, outsideAt, pairBad, badAt, standingOf, firstBad, count as fieldCount}
 use Rattle.sheet.specs.declared.Standing.the-variants.{Fine, Outside, Disagrees}
-use Rattle.typed.specs.Rows.{count, levelRow, valuesOf}
+use Rattle.typed.specs.Rows.{count, levelRow}
 use Rattle.texts.specs.Shown.{rowFigure}
 use Rattle.texts.specs.Steps.{stored, fieldOf}
-use Rattle.texts.specs.Typed.{SheetFigures}
 
 -- a row before the level's, the level's, and the one behind it
 pub data RowCase (k : ℕ) : Type 0 where

@@ -1,10 +1,9 @@
 -- A text read by the lines that it keeps: places and numbers of lines aside, what it brings comes from these alone.
-use mathlib.Core.Path.{_≡_, refl, ap, sym, _∙_}
+use mathlib.Core.Path.{_≡_, refl, _∙_}
 use mathlib.Core.Bool.{Bool, true, false}
-use mathlib.Core.List.{List, [], _∷_, _++_, append-assoc, append-nil}
+use mathlib.Core.List.{List, [], _∷_, _++_, append-assoc}
 use mathlib.Core.Logic.{_↔_}
 use Prim.Native.Nat.{ℕ}
-use native.Mathlib.Omega.{arith}
 use Rattle.laws.proofs.Never.{never}
 use Rattle.laws.specs.Choice.{if_then_else_}
 use Rattle.texts.specs.Cutting.{linesOf, bare, passedOver}
@@ -40,17 +39,17 @@ sheetsFrom stage figures (line ∷ lines) =
     sheetIn (s .event) (s .figures) ++ sheetsFrom (s .stage) (s .figures) lines
 
 -- the faults and the sheets of what was found, part by part
-pub faults-append : (first second : List Found) → faultsOf (first ++ second) ≡ faultsOf first ++ faultsOf second
+faults-append : (first second : List Found) → faultsOf (first ++ second) ≡ faultsOf first ++ faultsOf second
 unfolding faultsOf
 faults-append [] second = refl
 faults-append (found ∷ first) second = rw (faults-append first second, append-assoc)
 
-pub sheets-append : (first second : List Found) → sheetsOf (first ++ second) ≡ sheetsOf first ++ sheetsOf second
+sheets-append : (first second : List Found) → sheetsOf (first ++ second) ≡ sheetsOf first ++ sheetsOf second
 unfolding sheetsOf
 sheets-append [] second = refl
 sheets-append (found ∷ first) second = rw (sheets-append first second, append-assoc)
 
-pub faults-happened : (found : Found) → faultsOf (ifHappened found) ≡ faultIn (found .event) found
+faults-happened : (found : Found) → faultsOf (ifHappened found) ≡ faultIn (found .event) found
 unfolding faultsOf
 faults-happened found = go (found .event) refl
   where
@@ -59,7 +58,7 @@ faults-happened found = go (found .event) refl
     go Sheet p = rw p
     go (Fault fault row) p = rw p
 
-pub sheets-happened : (found : Found) → sheetsOf (ifHappened found) ≡ sheetIn (found .event) (found .cursor .figures)
+sheets-happened : (found : Found) → sheetsOf (ifHappened found) ≡ sheetIn (found .event) (found .cursor .figures)
 unfolding sheetsOf
 sheets-happened found = go (found .event) refl
   where
@@ -128,7 +127,7 @@ ended-clear c = rw (faults-happened (endedAt c)) (go (missingAt (c .stage)))
     go (Fault fault row) = (λ e. never cc, λ t. absurd t)
 
 -- the sheets that lines bring are those of the kept lines
-pub sheets-in : (bytes : ℕ) (c : Cursor) (lines : List (List ℕ)) → sheetsOf (allIn bytes c lines) ≡ sheetsFrom (c .stage) (c .figures) (keptOf lines)
+sheets-in : (bytes : ℕ) (c : Cursor) (lines : List (List ℕ)) → sheetsOf (allIn bytes c lines) ≡ sheetsFrom (c .stage) (c .figures) (keptOf lines)
 sheets-in bytes c [] = rw (all-none bytes c, none-kept) (sheets-ended c)
 sheets-in bytes c (line ∷ lines) =
     go (passedOver (bare line)) refl (sheets-in bytes (behindPassed bytes c line lines) lines)
@@ -152,7 +151,7 @@ sheets-in bytes c (line ∷ lines) =
         )
 
 -- and they bring no fault exactly when these bring none
-pub clear-in : (bytes : ℕ) (c : Cursor) (lines : List (List ℕ)) → (faultsOf (allIn bytes c lines) ≡ []) ↔ Clear (c .stage) (c .figures) (keptOf lines)
+clear-in : (bytes : ℕ) (c : Cursor) (lines : List (List ℕ)) → (faultsOf (allIn bytes c lines) ≡ []) ↔ Clear (c .stage) (c .figures) (keptOf lines)
 clear-in bytes c [] = rw (all-none bytes c, none-kept) (ended-clear c)
 clear-in bytes c (line ∷ lines) =
     go (passedOver (bare line)) refl (clear-in bytes (behindPassed bytes c line lines) lines)

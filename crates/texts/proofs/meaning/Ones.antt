@@ -1,7 +1,6 @@
 -- One text each: texts with the same kept lines say the same, and texts that say the same have the same kept lines, titles aside.
 use mathlib.Core.Path.{_≡_, refl, ap, sym, _∙_}
 use mathlib.Core.List.{List, [], _∷_, _++_, map, flatten}
-use mathlib.Core.Logic.{_↔_}
 use Prim.Native.Nat.{ℕ}
 use native.Mathlib.Omega.{arith}
 use lib.ListN.{length, take, drop, length-append}
@@ -10,14 +9,13 @@ use Rattle.laws.proofs.Never.{never}
 use Rattle.laws.specs.Each.{Each}
 use Rattle.sheet.specs.Packing.{size}
 use Rattle.sheet.specs.Sheets.{sheetOf, figuresOf, readOf}
-use Rattle.sheet.specs.declared.Sheet.{Sheet}
 use Rattle.sheet.specs.declared.SheetRead.the-variants.{Good}
 use Rattle.typed.specs.Rows.{bytesOf}
 use Rattle.typed.specs.Reading.{stands}
 use Rattle.texts.specs.Cutting.{beginsSheet}
 use Rattle.texts.specs.Shown.{sheetText}
 use Rattle.texts.specs.Texts.{beginning, allOf}
-use Rattle.texts.specs.Typed.{kept, faultsOf, sheetsOf, Faultless, bytesBy, typedBytes, sheetLines, Titled, linesOfAll, figuresOfAll, SheetFigures, Proper, TypedAs}
+use Rattle.texts.specs.Typed.{kept, faultsOf, sheetsOf, Faultless, bytesBy, typedBytes, sheetLines, Titled, linesOfAll, SheetFigures}
 use Rattle.texts.specs.declared.Found.{Found}
 use Rattle.texts.specs.declared.Stage.the-variants.{Between}
 use Rattle.texts.proofs.meaning.Complete.{complete}

@@ -1,22 +1,19 @@
 -- Where a sheet's rows stand among the lines of a text, and its figures among the bytes.
-use mathlib.Core.Path.{_≡_, refl, ap, sym, _∙_}
+use mathlib.Core.Path.{_≡_, refl, ap, _∙_}
 use mathlib.Core.Bool.{Bool, true, false}
 use mathlib.Core.List.{List, [], _∷_, _++_, map, flatten, List·Memᴰ, List·Memᴰ·head, List·Memᴰ·tail}
-use Prim.Native.Nat.{ℕ, zero, suc, _+_, _*_, _≤_, _<_}
-use native.Mathlib.Nat.{mul-suc}
+use Prim.Native.Nat.{ℕ, zero, suc, _+_, _*_, _<_}
 use native.Mathlib.Omega.{arith}
-use borrow.Author.Tests.{eq-eqb, eqb-true, eqb-false}
+use borrow.Author.Tests.{eqb-true, eqb-false}
 use lib.Dec.{eqb}
 use lib.ListN.{length, getD, take, drop, length-append}
 use lib.Seq.{take-at, drop-drop, drop-at, getD-append-add}
 use lib.ListN.{List·getD-append}
 use Rattle.laws.proofs.Never.{never}
-use Rattle.laws.specs.Choice.{if_then_else_, _=ᵇ_}
 use Rattle.laws.specs.Each.{Each}
 use Rattle.sheet.specs.Fields.{firstBad}
 use Rattle.sheet.specs.Packing.{size, bytesOf as packedOf}
 use Rattle.sheet.specs.Sheets.{sheetOf, figuresOf, sheetFrom, readOf, Valid}
-use Rattle.sheet.specs.declared.Sheet.{Sheet}
 use Rattle.sheet.specs.declared.SheetRead.the-variants.{Good}
 use Rattle.sheet.proofs.Promises.{figures-come-back}
 use Rattle.sheet.proofs.sheets.OneWriting.{bytes-length, read-written}
@@ -27,7 +24,7 @@ use Rattle.typed.proofs.Promises.{has-no-other-name}
 use Rattle.texts.specs.Cutting.{beginsSheet}
 use Rattle.texts.specs.Shown.{rowFigure, sheetText}
 use Rattle.texts.specs.Texts.{allOf}
-use Rattle.texts.specs.Typed.{kept, faultsOf, sheetsOf, Faultless, bytesBy, typedBytes, rowLines, sheetLines, Titled, linesOfAll, figuresOfAll, SheetFigures, Proper, TypedAs, TypedAndRead}
+use Rattle.texts.specs.Typed.{kept, sheetsOf, Faultless, typedBytes, rowLines, sheetLines, Titled, linesOfAll, figuresOfAll, SheetFigures, Proper, TypedAs, TypedAndRead}
 use Rattle.texts.proofs.meaning.Sound.{sound-text}
 
 -- the sheet of figures, read from their bytes
@@ -68,7 +65,7 @@ pub lines-length : (figures : List ℕ) → length (sheetLines figures) ≡ coun
 unfolding sheetLines
 lines-length figures = rows-length figures 0 count
 
-pub line-at : (figures : List ℕ) (i : ℕ) → i < count → getD (sheetLines figures) i [] ≡ lineText i (rowFigure figures i)
+line-at : (figures : List ℕ) (i : ℕ) → i < count → getD (sheetLines figures) i [] ≡ lineText i (rowFigure figures i)
 unfolding sheetLines
 line-at figures i h = let e : 0 + i ≡ i = omega arith in rw e at (row-at figures 0 count i h)
 
@@ -91,7 +88,7 @@ module _ (sheet : Titled) (sheets : List Titled) where
   unfolding linesOfAll
   first-title = refl
 
-pub row-of-sheet : (sheets : List Titled) (j i : ℕ) → j < length sheets → i < count
+row-of-sheet : (sheets : List Titled) (j i : ℕ) → j < length sheets → i < count
     → getD (linesOfAll sheets) (29 * j + 1 + i) [] ≡ lineText i (rowFigure (getD (figuresOfAll sheets) j []) i)
 row-of-sheet [] j i h l = absurd (omega arith)
 row-of-sheet (sheet ∷ sheets) zero i h l = line-in-first sheet sheets i l
@@ -99,7 +96,7 @@ row-of-sheet (sheet ∷ sheets) (suc j) i h l =
     let e : 29 * suc j + 1 + i ≡ 29 + (29 * j + 1 + i) = omega arith in
     rw e (line-behind-first sheet sheets (29 * j + 1 + i) ∙ row-of-sheet sheets j i (omega arith) l)
 
-pub title-of-sheet : (sheets : List Titled) → Each Proper sheets → (j : ℕ) → j < length sheets → beginsSheet (getD (linesOfAll sheets) (29 * j) []) ≡ true
+title-of-sheet : (sheets : List Titled) → Each Proper sheets → (j : ℕ) → j < length sheets → beginsSheet (getD (linesOfAll sheets) (29 * j) []) ≡ true
 title-of-sheet [] p j h = absurd (omega arith)
 title-of-sheet (sheet ∷ sheets) p zero h = rw (first-title sheet sheets) (p .0 .begins)
 title-of-sheet (sheet ∷ sheets) p (suc j) h =
@@ -107,7 +104,7 @@ title-of-sheet (sheet ∷ sheets) p (suc j) h =
     rw (e, line-behind-first sheet sheets (29 * j)) (title-of-sheet sheets (p .1) j (omega arith))
 
 -- the bytes of a sheet among the bytes of all
-pub bytes-of-sheet : (sheets : List Titled) → Each Proper sheets → (j : ℕ) → j < length sheets
+bytes-of-sheet : (sheets : List Titled) → Each Proper sheets → (j : ℕ) → j < length sheets
     → take size (drop (28 * j) (flatten (map sheetText (figuresOfAll sheets)))) ≡ sheetText (getD (figuresOfAll sheets) j [])
 unfolding flatten
 bytes-of-sheet [] p j h = absurd (omega arith)
@@ -141,7 +138,7 @@ bytes-of-all (sheet ∷ sheets) p =
       bytes-of-all sheets (p .1),
     )
 
-pub as-many : (sheets : List Titled) → length (figuresOfAll sheets) ≡ length sheets
+as-many : (sheets : List Titled) → length (figuresOfAll sheets) ≡ length sheets
 as-many [] = refl
 as-many (sheet ∷ sheets) = ap suc (as-many sheets)
 

@@ -1,15 +1,13 @@
 -- The kept lines of a text without a fault are the lines of its sheets.
 -- By going down the lines: the figures of a sheet are filled row by row, and no later row changes those before.
-use mathlib.Core.Path.{_≡_, refl, ap, sym, _∙_}
+use mathlib.Core.Path.{_≡_, refl, ap, _∙_}
 use mathlib.Core.Bool.{Bool, true, false}
 use mathlib.Core.List.{List, [], _∷_, _++_}
-use Prim.Native.Nat.{ℕ, zero, suc, _+_, _-_, _≤_, _<_}
-use native.Mathlib.Numerals.{add-one}
+use Prim.Native.Nat.{ℕ, suc, _+_, _-_, _<_}
 use native.Mathlib.Omega.{arith}
-use borrow.Author.Tests.{lt-ltb, le-ltb, ltb-true, ltb-false}
+use borrow.Author.Tests.{ltb-true, ltb-false}
 use lib.Dec.{ltb}
 use lib.ListN.{length}
-use Rattle.laws.proofs.Never.{never}
 use Rattle.laws.specs.Choice.{if_then_else_, _<ᵇ_}
 use Rattle.laws.specs.Each.{Each}
 use Rattle.sheet.specs.Fields.{badAt, standingOf, count as fieldCount}
@@ -26,8 +24,7 @@ use Rattle.texts.specs.Shown.{rowFigure}
 use Rattle.texts.specs.Steps.{stored, fieldOf, step, acceptedBy, acceptedIn, rowStepBy, rowStep, missingAt, beginStep, otherStep, stepOf}
 use Rattle.texts.specs.Texts.{beginning, allOf}
 use Rattle.texts.specs.Typed.{kept, sheetsOf, Faultless, rowLines, sheetLines, Titled, linesOfAll, figuresOfAll, SheetFigures, Proper, TypedAs}
-use Rattle.texts.specs.declared.Event.{Event}
-use Rattle.texts.specs.declared.Event.the-variants.{Nothing, Sheet, Fault}
+use Rattle.texts.specs.declared.Event.the-variants.{Nothing, Sheet}
 use Rattle.texts.specs.declared.Stage.{Stage}
 use Rattle.texts.specs.declared.Stage.the-variants.{Between, InRow, Skipping}
 use Rattle.texts.specs.declared.steps.Step.{Step}
@@ -78,7 +75,7 @@ module _ (figures : List ℕ) (k : ℕ) (line : List ℕ) (h : k < count) where
   entered FigureMissing said none = absurd none
   entered UnitMissing said none = absurd none
 
-  pub row-read : NoFault (stepOf (InRow k) figures line .event) → RowRead figures k line (stepOf (InRow k) figures line)
+  row-read : NoFault (stepOf (InRow k) figures line .event) → RowRead figures k line (stepOf (InRow k) figures line)
   unfolding rowStep
   row-read none = go (beginsSheet line) refl none
     where
@@ -150,10 +147,10 @@ module _ (k : ℕ) (figures line : List ℕ) (lines : List (List ℕ)) (so : SoF
   abbrev pub after : List ℕ
   after = stored figures k (read .figure)
 
-  pub after-long : length after ≡ fieldCount
+  after-long : length after ≡ fieldCount
   after-long = stored-length figures k (read .figure) (so .within) ∙ so .long
 
-  pub after-fine : (j : ℕ) → j < filled (k + 1) → badAt after j ≡ false
+  after-fine : (j : ℕ) → j < filled (k + 1) → badAt after j ≡ false
   after-fine = stored-fine figures k (read .figure) (so .within) (so .long) (so .each-fine) (read .fine)
 
   -- the line is that of the row's figure in the sheet that comes of it
@@ -216,7 +213,7 @@ rowed k figures line lines clear further so = go (ltb k 27) refl (row-read figur
         last-row k figures line lines so _ read end on
         (further Between _ (rw on at (clear .1)) (after-long k figures line lines so _ read))
 
-pub sound : (lines : List (List ℕ)) (stage : Stage) (figures : List ℕ) → Clear stage figures lines → Meant stage figures lines
+sound : (lines : List (List ℕ)) (stage : Stage) (figures : List ℕ) → Clear stage figures lines → Meant stage figures lines
 unfolding linesOfAll
 sound [] Between figures clear = λ long. record { sheets = []; proper = tt; typed = refl; brought = refl }
 sound [] (InRow k) figures clear = absurd clear

@@ -1,5 +1,5 @@
 -- A text read step by step: each step finds the first of what is left, and what it leaves is the rest.
-use mathlib.Core.Path.{_≡_, refl, ap, sym, _∙_}
+use mathlib.Core.Path.{_≡_, refl}
 use mathlib.Core.Bool.{Bool, true, false}
 use mathlib.Core.List.{List, [], _∷_, _++_}
 use Prim.Native.Nat.{ℕ, zero, suc, _+_, _≤_, _<_}
@@ -10,7 +10,7 @@ use lib.Dec.{ltb}
 use lib.ListN.{length, drop}
 use Rattle.laws.proofs.Never.{never}
 use Rattle.laws.specs.Choice.{if_then_else_}
-use Rattle.texts.specs.Cutting.{lineOf, linesOf}
+use Rattle.texts.specs.Cutting.{lineOf}
 use Rattle.texts.specs.Texts.{beginning, happenedIn, ifHappened, turnOn, endedAt, foundIn, nextOf, allIn, allOf}
 use Rattle.texts.specs.Typed.{allFrom}
 use Rattle.texts.specs.declared.Cursor.{Cursor}
@@ -24,12 +24,12 @@ module _ (text : List ℕ) where
   turnAt c = turnOn (length text) c (lineOf (drop (c .at) text))
 
   -- the reading goes on behind that line
-  pub turn-place : (c : Cursor) → turnAt c .cursor .at ≡ placeBehind text (c .at)
+  turn-place : (c : Cursor) → turnAt c .cursor .at ≡ placeBehind text (c .at)
   unfolding turnOn
   turn-place c = refl
 
   -- the next thing is on this line, or from the next on
-  pub next-line : (c : Cursor) → c .at < length text
+  next-line : (c : Cursor) → c .at < length text
       → nextOf text c ≡ (if happenedIn (turnAt c .event) then turnAt c else nextOf text (turnAt c .cursor))
   unfolding nextOf foundIn turnOn
   next-line c h = rw (lines-from text (c .at) h)
@@ -39,7 +39,7 @@ module _ (text : List ℕ) where
   all-line c h = rw (lines-from text (c .at) h)
 
   -- behind the last line
-  pub next-end : (c : Cursor) → length text ≤ c .at → nextOf text c ≡ endedAt c
+  next-end : (c : Cursor) → length text ≤ c .at → nextOf text c ≡ endedAt c
   unfolding nextOf foundIn
   next-end c h = rw (lines-end text (c .at) h)
 

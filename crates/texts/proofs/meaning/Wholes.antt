@@ -1,21 +1,18 @@
 -- A whole text: it has no fault exactly when it is typed as some sheets, and it is so as one list of sheets only.
 use mathlib.Core.Path.{_≡_, refl, ap, sym, _∙_}
-use mathlib.Core.Bool.{true}
 use mathlib.Core.List.{List, [], _∷_, _++_, List·Memᴰ, List·Memᴰ·not-nil, List·Memᴰ·cases-cons, List·Memᴰ·append-cases}
 use mathlib.Core.Logic.{_↔_, _⊎_, inl, inr}
-use Prim.Native.Nat.{ℕ, _<_}
+use Prim.Native.Nat.{ℕ, zero, suc, _+_, _≤_}
 use native.Mathlib.Omega.{arith}
-use lib.ListN.{drop}
+use lib.ListN.{length, drop}
 use lib.Seq.{drop-at}
 use Rattle.laws.proofs.Never.{never}
 use Rattle.laws.specs.Each.{Each}
 use Rattle.typed.specs.Rows.{count}
-use Rattle.typed.specs.Lines.{lineText}
-use Rattle.texts.specs.Cutting.{beginsSheet}
 use Rattle.texts.specs.Shown.{rowFigure}
 use Rattle.texts.specs.Texts.{allOf}
-use Rattle.texts.specs.Typed.{kept, sheetsOf, Faultless, sheetLines, Titled, linesOfAll, figuresOfAll, SheetFigures, Proper, TypedAs}
-use Rattle.texts.proofs.meaning.Complete.{complete-text}
+use Rattle.texts.specs.Typed.{kept, beginnings, sheetsOf, Faultless, rowLines, sheetLines, Titled, linesOfAll, figuresOfAll, SheetFigures, Proper, TypedAs, LineKind, begins, row}
+use Rattle.texts.proofs.meaning.Complete.{row-begins-none, complete-text}
 use Rattle.texts.proofs.meaning.Places.{lines-length, rows-member}
 use Rattle.texts.proofs.meaning.Sound.{sound-text}
 
@@ -62,10 +59,6 @@ one-way text sheets others s t =
     same-sheets sheets others (sym (s .lines) ∙ t .lines) (sym (complete-text text sheets s .1) ∙ complete-text text others t .1)
 
 -- each line of sheets begins one or is that of a row's figure
-pub data LineKind (line : List ℕ) : Type 0 where
-  begins : beginsSheet line ≡ true → LineKind line
-  row : (i n : ℕ) → i < count → line ≡ lineText i n → LineKind line
-
 sheet-line : (figures line : List ℕ) → List·Memᴰ line (sheetLines figures) → LineKind line
 unfolding sheetLines
 sheet-line figures line m = let r = rows-member figures 0 count line m in row (r .0) (rowFigure figures (r .0)) (omega (arith, r .1)) (r .2)
@@ -85,3 +78,19 @@ line-of-all (sheet ∷ sheets) p line m = go (List·Memᴰ·cases-cons m) (line-
 
 pub each-line : (text : List ℕ) → Faultless text → (line : List ℕ) → List·Memᴰ line (kept text) → LineKind line
 each-line text none line m = let s = sound-text text none in line-of-all (s .0) (s .1 .each-proper) line (rw (s .1 .lines) at m)
+
+-- of the lines of sheets one begins each, and no row's does
+none-begin : (figures : List ℕ) (k m : ℕ) (rest : List (List ℕ)) → k + m ≤ count → beginnings (rowLines figures k m ++ rest) ≡ beginnings rest
+unfolding rowLines beginnings
+none-begin figures k zero rest h = refl
+none-begin figures k (suc m) rest h = rw (row-begins-none k (rowFigure figures k) (omega arith)) (none-begin figures (k + 1) m rest (omega arith))
+
+each-begins : (sheets : List Titled) → Each Proper sheets → beginnings (linesOfAll sheets) ≡ length (figuresOfAll sheets)
+unfolding linesOfAll beginnings sheetLines
+each-begins [] p = refl
+each-begins (sheet ∷ sheets) p =
+    rw (p .0 .begins, none-begin (sheet .figures) 0 count (linesOfAll sheets) (omega arith), each-begins sheets (p .1)) (omega arith)
+
+pub one-each : (text : List ℕ) → Faultless text → length (sheetsOf (allOf text)) ≡ beginnings (kept text)
+one-each text none =
+    let s = sound-text text none in ap length (s .2) ∙ sym (each-begins (s .0) (s .1 .each-proper)) ∙ ap beginnings (sym (s .1 .lines))

@@ -1,15 +1,13 @@
 -- A text written line by line keeps its lines: the lines of sheets, so written, are typed as those sheets.
-use mathlib.Core.Path.{_≡_, refl, ap, sym, _∙_}
+use mathlib.Core.Path.{_≡_, refl, ap, _∙_}
 use mathlib.Core.Bool.{Bool, true, false}
-use mathlib.Core.List.{List, [], _∷_, _++_, append-assoc}
+use mathlib.Core.List.{List, [], _∷_, _++_}
 use mathlib.Core.Logic.{_≢_}
 use Prim.Native.Nat.{ℕ, zero, suc, _+_, _≤_, _<_}
 use native.Mathlib.Omega.{arith}
 use borrow.Author.Tests.{ne-eqb}
-use lib.Dec.{eqb}
-use lib.ListN.{length, getD, drop}
+use lib.ListN.{length, getD}
 use Rattle.laws.proofs.Each.{each-append, each-implied}
-use Rattle.laws.proofs.Never.{never}
 use Rattle.laws.specs.Choice.{if_then_else_, _=ᵇ_}
 use Rattle.laws.specs.Each.{Each}
 use Rattle.typed.specs.Rows.{bytesOf, count}
@@ -17,7 +15,7 @@ use Rattle.typed.specs.Lines.{lineText}
 use Rattle.typed.specs.Reading.{stands}
 use Rattle.typed.proofs.Promises.{line-has-no-newline, line-not-empty, letter-first}
 use Rattle.typed.proofs.meaning.Fronts.{stands-front}
-use Rattle.texts.specs.Cutting.{newline, return, hash, inFront, linesOf, bare, blank, passedOver, beginsSheet}
+use Rattle.texts.specs.Cutting.{newline, return, hash, linesOf, bare, blank, passedOver, beginsSheet}
 use Rattle.texts.specs.Shown.{rowFigure}
 use Rattle.texts.specs.Typed.{keptOf, kept, rowLines, sheetLines, Titled, linesOfAll, Proper, TypedAs, textOf, OneLine}
 
@@ -69,7 +67,7 @@ letter-kept (b ∷ line) l h =
     rw (ne-eqb b hash (λ (e : b ≡ hash). omega arith), ne-eqb b 32 (λ (e : b ≡ 32). omega arith), ne-eqb b 9 (λ (e : b ≡ 9). omega arith))
 
 -- so a row's line stays
-pub row-stays : (i n : ℕ) → i < count → Stays (lineText i n)
+row-stays : (i n : ℕ) → i < count → Stays (lineText i n)
 row-stays i n h =
     record { one = printed-line (lineText i n) (line-has-no-newline i n h); not-passed = letter-kept (lineText i n) (line-not-empty i n) (letter-first i n h .0) }
 
@@ -92,7 +90,7 @@ title-kept title e = go (length title =ᵇ 5) e
     go false e = rw (stands-front (bytesOf "sheet ") title e) (letter-kept _ (omega arith) (omega arith))
 
 -- the lines of sheets
-pub sheets-stay : (sheets : List Titled) → Each Proper sheets → Each (λ s. OneLine (s .title)) sheets → Each Stays (linesOfAll sheets)
+sheets-stay : (sheets : List Titled) → Each Proper sheets → Each (λ s. OneLine (s .title)) sheets → Each Stays (linesOfAll sheets)
 unfolding linesOfAll
 sheets-stay [] p q = tt
 sheets-stay (sheet ∷ sheets) p q = (

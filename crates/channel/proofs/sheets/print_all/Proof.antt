@@ -8,7 +8,8 @@ use lib.ListN.{length, length-replicate}
 use Rattle.channel.specs.Input.{Reading}
 use Rattle.channel.specs.Printing.{inputBlock, progress, atFirst, InputPrinted}
 use Rattle.channel.proofs.Blocks.{still, over}
-use Rattle.channel.proofs.Inputs.{begun-at, printed-on}
+use Rattle.channel.proofs.Taking.{taken-on}
+use Rattle.channel.proofs.Printing.{printing, begun-at}
 use borrow.Author.Needs.{needs}
 use Rattle.channel.proofs.sheets.print_all.Statement.{statement}
 use Rattle.channel.proofs.sheets.print_all.Tie as tie
@@ -36,8 +37,8 @@ loop-again c =
     let some = called .print-some in (
       omega (arith, some .kept .1 .1 .0),
       omega (arith, some .kept .1 .0),
-      printed-on (a .level) (atFirst (a .at) (now (a .buffer))) (progress (l .state) (l .buffer)) (some .result) (some .last .1 .0) (some .last .1 .1 .0)
-          (some .ensures) (some .result .state .out .«open») (c .before .is-whole .result) (c .goes-on .result) (omega (arith, some .kept .1 .0))
+      taken-on (printing (a .level)) (atFirst (a .at) (now (a .buffer))) (progress (l .state) (l .buffer)) (progress (some .result .state) (some .last .1 .1 .0))
+          (some .result .filled) (some .last .1 .0) (some .ensures .filling) (some .ensures .sheets-printed) (some .result .state .out .«open») (c .before .is-whole .result) (c .goes-on .result) (omega (arith, some .kept .1 .0))
           (still inputBlock _ (l .more) (l .whole) (l .inv .2) (called .before .before .before .before .loop-test .taken))
           (c .before .is-whole .ensures) (c .goes-on .ensures),
     )

@@ -6,7 +6,8 @@ use denote.Ref.{now}
 use lib.ListN.{length, drop}
 use Rattle.channel.specs.Text.{sheetsOf}
 use Rattle.channel.specs.Printing.{progress, sheetsPrinted}
-use Rattle.channel.proofs.Printing.{sheet-more, none-more}
+use Rattle.channel.proofs.Taking.{sheet-more, none-more}
+use Rattle.channel.proofs.Printing.{printing}
 use borrow.Author.Needs.{needs}
 use Rattle.channel.proofs.sheets.print_block.Statement.{statement}
 use Rattle.channel.proofs.sheets.print_block.Tie as tie
@@ -28,7 +29,7 @@ loop-again c =
     let a = turn .before .before .before .before .before .args in (
       omega (arith, turn .sheet-end .ensures),
       omega arith,
-      sym (sheet-more (a .level) (now (a .block)) (l .from) (turn .sheet-end .result) (progress (l .now) (l .buffer)) _ (turn .before .loop-test .taken)
+      sym (sheet-more (printing (a .level)) (now (a .block)) (l .from) (turn .sheet-end .result) (progress (l .now) (l .buffer)) _ (turn .before .loop-test .taken)
           (turn .sheet-end .ensures) (called .print-sheet .ensures))
           ∙ l .inv .2,
     )
@@ -37,7 +38,7 @@ returns : tie.Need-returns Inv-loop μ-loop
 returns c =
     let l = c .before .loop in
     let a = c .before .before .before .before .args in
-    sym (none-more (a .level) (now (a .block)) (l .from) (progress (l .now) (l .buffer)) (c .loop-test .left)) ∙ l .inv .2
+    sym (none-more (printing (a .level)) (now (a .block)) (l .from) (progress (l .now) (l .buffer)) (c .loop-test .left)) ∙ l .inv .2
 
 pub print-block-spec : {M : Type 1} → statement M
 print-block-spec =

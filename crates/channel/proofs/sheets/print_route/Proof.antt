@@ -1,5 +1,6 @@
 -- `channel::sheets::print_route` meets its contract: a place for the line, and the line there.
 use denote.Ref.{now}
+use Rattle.lines.specs.Lines.{lineBytes}
 use Rattle.channel.specs.Text.{routeLineOf}
 use Rattle.channel.proofs.Lines.{line-put}
 use borrow.Author.Needs.{needs}
@@ -11,7 +12,7 @@ returns c =
     let put = c .before .before in
     let ready = put .before .before in
     let a = c .before .before .before .before .before .before .before .before .before .args in
-    line-put (routeLineOf (a .state .route)) (record { at = a .state .out .at; buffer = now (a .buffer) }) _ _ _ (ready .made-ready .ensures)
+    line-put lineBytes (routeLineOf (a .state .route)) (record { at = a .state .out .at; buffer = now (a .buffer) }) _ _ _ (ready .made-ready .ensures)
     (put .put-route-line .ensures .0) (put .put-route-line .ensures .1)
 
 pub print-route-spec : {M : Type 1} → statement M
