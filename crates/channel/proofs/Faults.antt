@@ -2,16 +2,17 @@
 -- What is left after a step is the rest of what was left before it.
 use mathlib.Core.Path.{_≡_, refl, sym, ap, _∙_}
 use mathlib.Core.Bool.{Bool, true, false}
-use mathlib.Core.List.{List, [], _∷_, _++_, map, flatten, map-append}
+use mathlib.Core.List.{List, [], _∷_, _++_, map, map-append}
+use mathlib.Core.Logic.{_↔_}
 use Prim.Native.Nat.{ℕ, _≤_, _<_}
 use native.Mathlib.Omega.{arith}
-use lib.ListN.{length, take, replicate, length-replicate}
+use lib.ListN.{length, replicate, length-replicate}
 use Rattle.laws.specs.Choice.{if_then_else_}
 use Rattle.laws.proofs.Never.{never}
 use Rattle.lines.specs.Lines.{placeWithin, bufferWithin}
 use Rattle.texts.specs.Shown.{sheetBytes, sheetText}
 use Rattle.texts.specs.Texts.{happenedIn, beginning, nextOf, allOf}
-use Rattle.texts.specs.Typed.{allFrom, faultIn, faultsOf, sheetIn, sheetsOf, bytesBy, typedBytes}
+use Rattle.texts.specs.Typed.{Faultless, allFrom, faultIn, faultsOf, sheetIn, sheetsOf, typedBytes}
 use Rattle.texts.specs.declared.Cursor.{Cursor}
 use Rattle.texts.specs.declared.Event.{Event}
 use Rattle.texts.specs.declared.Event.the-variants.{Nothing, Sheet, Fault}
@@ -101,7 +102,7 @@ one-put text l = refl
 pub all-left : (text : List ℕ) (cursor : Cursor) → cursor ≡ beginning → allFrom text cursor ≡ allOf text
 all-left text cursor e = ap (allFrom text) e ∙ sym (all-from-its-beginning text)
 
--- no fault
+-- no fault is among what was found
 no-fault : (all : List Found) → anyFault all ≡ false → faultsOf all ≡ []
 unfolding anyFault faultsOf
 no-fault [] e = refl
@@ -112,6 +113,21 @@ no-fault (found ∷ all) e = go (found .event) e (no-fault all)
     go Nothing e further = further e
     go Sheet e further = further e
     go (Fault fault row) e further = never cc
+
+none-told : (all : List Found) → faultsOf all ≡ [] → anyFault all ≡ false
+unfolding anyFault faultsOf
+none-told [] e = refl
+none-told (found ∷ all) e = go (found .event) e (none-told all)
+  where
+    go : (event : Event) → faultIn event found ++ faultsOf all ≡ [] → (faultsOf all ≡ [] → anyFault all ≡ false)
+        → (if isFault event then true else anyFault all) ≡ false
+    go Nothing e further = further e
+    go Sheet e further = further e
+    go (Fault fault row) e further = never cc
+
+pub none-told-exactly : (text : List ℕ) → (anyFault (allOf text) ≡ false) ↔ Faultless text
+unfolding Faultless
+none-told-exactly text = (no-fault (allOf text), none-told (allOf text))
 
 -- what was written and what stands are the bytes of a text without a fault
 pub bytes-out : (text buffer later : List ℕ) (rest : ℕ) → sheetBytes ≤ length buffer → anyFault (allOf text) ≡ false

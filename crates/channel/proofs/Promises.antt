@@ -1,8 +1,9 @@
--- What the program promises, printing (section 10) and showing (14.5). `TextPrinted` of specs/Printing.antt is what `print` ensures, `TextShown` of
--- specs/Showing.antt what `show` does, and `main` writes the rest that they leave; `printed` of specs/Text.antt and `shown` are the texts.
+-- What the program promises, printing (section 10), showing (14.5) and typing (14.3). `TextPrinted` of specs/Printing.antt is what `print` ensures,
+-- `TextShown` of specs/Showing.antt what `show` does, `TypedOut` of specs/Typing.antt what `type_text` does, and `main` writes the rest that they leave; `printed` of specs/Text.antt and `shown` are the texts.
 use mathlib.Core.Path.{_≡_, ap, _∙_}
 use mathlib.Core.List.{List, [], _∷_, _++_, flatten}
-use mathlib.Core.Logic.{_≢_}
+use mathlib.Core.Bool.{false}
+use mathlib.Core.Logic.{_↔_, _≢_}
 use Prim.Native.Nat.{ℕ, _+_, _*_, _≤_, _<_, min}
 use native.Mathlib.Nat.{zero-add}
 use native.Mathlib.Omega.{arith}
@@ -17,13 +18,16 @@ use Rattle.design.specs.Design.{designAt}
 use Rattle.design.specs.Numbers.{codeOf}
 use Rattle.design.specs.Starred.{writing}
 use Rattle.design.proofs.Promises.{other-length-one}
-use Rattle.texts.specs.Shown.{shownBytes, shownText}
+use Rattle.texts.specs.Shown.{shownBytes, sheetBytes, shownText}
+use Rattle.texts.specs.Texts.{allOf}
+use Rattle.texts.specs.Typed.{Faultless, typedBytes}
 use Rattle.channel.specs.Input.{Input, inputOf, Came}
 use Rattle.channel.specs.Output.{Lines, standing, withLines, written}
 use Rattle.channel.specs.Route.{noSheets}
 use Rattle.channel.specs.Text.{sheetsOf, routeAfter, shipsOfAll, howManyAnswered, linesOf, printed}
 use Rattle.channel.specs.Printing.{fileBlock, inputBlock, TextPrinted}
 use Rattle.channel.specs.Showing.{shownTexts, textsOf, shown, TextShown}
+use Rattle.channel.specs.Typing.{anyFault, bytesOfSheets, TypedOut}
 use Rattle.channel.specs.Starred.{textOfS}
 use Rattle.channel.specs.declared.Text.the-variants.{Whole}
 use Rattle.channel.proofs.Lines.{all-lines}
@@ -31,6 +35,7 @@ use Rattle.channel.proofs.Cuts.{next-sheet, no-sheet, in-two, joined, h
 use Rattle.channel.proofs.Routes as the-route
 use Rattle.channel.proofs.Starred.{sample}
 use Rattle.channel.proofs.Shows.{indexed}
+use Rattle.channel.proofs.Faults.{none-told-exactly}
 
 -- Whatever blocks the record and the sheets came in, the text is that of the record and the sheets: where the program came to its end, there are
 -- the blocks that it read, each to its end, and what was written, with the rest in the buffer, is what is printed of their bytes.
@@ -96,3 +101,12 @@ pub shown-in-place : (before : List (List ℕ)) (sheet : List ℕ) (behind : Lis
     → shownTexts 0 (before ++ sheet ∷ behind)
     ≡ shownTexts 0 before ++ shownText (min greatest (length before + 1)) sheet ∷ shownTexts (min greatest (length before + 1)) behind
 shown-in-place = indexed
+
+-- The word type: what was written of a text without a fault and the rest in the buffer are together the bytes of the text.
+pub text-is-typed : (text buffer later : List ℕ) (rest : ℕ) → TypedOut text buffer (Whole rest) later
+    → written sheetBytes (bytesOfSheets (allOf text)) (record { at = 0; buffer = buffer }) ++ take rest later ≡ typedBytes text
+text-is-typed text buffer later rest out = out
+
+-- It tells no fault exactly where there is none.
+pub no-fault-exactly : (text : List ℕ) → (anyFault (allOf text) ≡ false) ↔ Faultless text
+no-fault-exactly = none-told-exactly

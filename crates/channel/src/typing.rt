@@ -10,6 +10,7 @@ ghost use Rattle.channel.specs.Output.{withLine};
 ghost use Rattle.channel.specs.Typing.{isOver, isFault, anyFault, linesAt, FoundPut, SheetsPut, TypedOut};
 use crate::Text;
 use crate::input;
+use crate::input::Filled;
 use crate::output;
 use crate::output::Out;
 use libc::STDERR_FILENO;
@@ -146,11 +147,10 @@ fn type_text(text: &[u8], buffer: &mut [u8]) -> Text
     Text::Cut
 }
 
-// Whether standard input has a byte more.
-fn has_more() -> bool {
+// What standard input has behind a text that fills its space: a byte, none, or a read that fails.
+fn behind() -> Filled {
     let mut space = [0u8; 1];
-    let filled = input::fill(STDIN_FILENO, &mut space);
-    0 < filled.count
+    input::fill(STDIN_FILENO, &mut space)
 }
 
 // The space of the longest text.
@@ -171,7 +171,12 @@ pub fn type_all(buffer: &mut [u8]) -> Text
         return Text::Cut;
     }
     if !filled.ended {
-        if has_more() {
+        let rest = behind();
+        if rest.failed {
+            os::fail(b"standard input");
+            return Text::Cut;
+        }
+        if 0 < rest.count {
             io::write_all(
                 STDERR_FILENO,
                 b"standard input: longer than 4194304 bytes\n",

@@ -1,6 +1,6 @@
 // Bytes shown as text, the bytes of figures, and the empty form (definition, sections 14.5 and 14.6).
 ghost use mathlib.Core.Path.{_≡_};
-ghost use Prim.Native.Nat.{_+_, _*_, _≤_, _<_};
+ghost use Prim.Native.Nat.{_+_, _≤_, _<_};
 ghost use lib.ListN.{length};
 ghost use Rattle.lines.specs.Lines.{Put};
 ghost use Rattle.texts.specs.Shown.{rowFigure, rowLine, rowsText, refusedText, readText, shownText, formRow, formText, sheetText};

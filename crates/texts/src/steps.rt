@@ -1,6 +1,6 @@
 // One line of a text: what it brings, and how far the text is read then (definition, section 14.3).
 ghost use mathlib.Core.Path.{_≡_};
-ghost use Prim.Native.Nat.{_<_, _≤_};
+ghost use Prim.Native.Nat.{_<_};
 ghost use lib.ListN.{length, drop};
 ghost use Rattle.texts.specs.Cutting.{lineOf};
 ghost use Rattle.texts.specs.Steps.{stored, fieldOf, refusedBy, acceptedIn, nameFault, rowStep, missingAt, beginStep, stepOf, lineStep};

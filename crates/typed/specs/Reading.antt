@@ -1,6 +1,6 @@
 -- What a line says in the place of a row: the figure is guessed, put back as the row has it and compared (sections 14.2 and 14.3).
 use Prim.Native.Nat.{ℕ, _+_, _-_, _*_}
-use mathlib.Core.Bool.{Bool, true, false, _&&_}
+use mathlib.Core.Bool.{Bool, true, false}
 use mathlib.Core.List.{List, [], _∷_}
 use lib.ListN.{length, drop}
 use Rattle.laws.specs.Choice.{if_then_else_, _≤ᵇ_, _<ᵇ_, _=ᵇ_}

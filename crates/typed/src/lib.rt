@@ -1,8 +1,5 @@
 // The typed sheet, line by line: a row for each field, its name, its figure and its unit (definition, section 14.2).
 ghost use mathlib.Core.Path.{_≡_};
-ghost use mathlib.Core.Bool.{_&&_};
-ghost use lib.ListN.{length};
-ghost use Rattle.laws.specs.Choice.{_=ᵇ_};
 ghost use Rattle.lines.specs.Lines.{placeWithin, bufferWithin};
 ghost use Rattle.typed.specs.Lines.{lineBytes, lineText, blankText, expectedBytes, expectedText};
 ghost use Rattle.typed.specs.Reading.{stands, entryOf, rowNamed};

@@ -1,5 +1,4 @@
 // The text of a row: name, figure and unit, put into a buffer (definition, section 14.2).
-ghost use mathlib.Core.Path.{_≡_};
 ghost use Prim.Native.Nat.{_+_, _*_, _-_, _≤_, _<_};
 ghost use lib.ListN.{length};
 ghost use Rattle.lines.specs.Lines.{Put};

@@ -1,9 +1,7 @@
 // What a line says in the place of a row: the figure is guessed, put back as the row has it and compared (definition, section 14.2).
 ghost use mathlib.Core.Path.{_≡_};
-ghost use mathlib.Core.Bool.{_&&_};
 ghost use Prim.Native.Nat.{_+_, _*_, _-_, _≤_, _<_};
 ghost use lib.ListN.{length, drop};
-ghost use Rattle.laws.specs.Choice.{_=ᵇ_};
 ghost use Rattle.typed.specs.Lines.{nameText};
 ghost use Rattle.typed.specs.Reading.{stands, same, inNumber, digitOn, digitsRead, belowZero, levelGuess, wordStands, wordGuess, guessed, entryBy};
 use crate::Entry;

@@ -1,6 +1,5 @@
 -- `lines::put_bytes` meets its contract: where the bytes fit, and where they do not.
 use borrow.Author.Needs.{needs}
-use lib.ListN.{length}
 use Rattle.lines.proofs.putting.Fitting.{room, unfit, fitting}
 use Rattle.lines.proofs.put_bytes.Statement.{statement}
 use Rattle.lines.proofs.put_bytes.Tie as tie

@@ -1,9 +1,7 @@
 -- `sheet::standing_of` meets its contract: each way out is a case of `standingOf`.
-use mathlib.Core.Path.{_≡_, sym, _∙_}
-use mathlib.Core.Bool.{true, false}
 use borrow.Author.Needs.{needs}
 use borrow.Author.Tests.{le-leb, lt-leb}
-use Rattle.sheet.specs.Fields.{count, outsideAt, pairBad, standingOf}
+use Rattle.sheet.specs.Fields.{count, standingOf}
 use Rattle.sheet.proofs.standing_of.Statement.{statement}
 use Rattle.sheet.proofs.standing_of.Tie as tie
 

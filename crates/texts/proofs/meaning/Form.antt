@@ -2,7 +2,7 @@
 use mathlib.Core.Path.{_≡_, refl, ap, _∙_}
 use mathlib.Core.Bool.{Bool, true, false, _&&_}
 use mathlib.Core.List.{List, [], _∷_, _++_, append-assoc, flatten}
-use Prim.Native.Nat.{ℕ, zero, suc, _+_, _≤_, _<_}
+use Prim.Native.Nat.{ℕ, zero, suc, _+_, _≤_}
 use native.Mathlib.Omega.{arith}
 use lib.Dec.{T, leb→le}
 use Rattle.laws.proofs.Each.{each-append, each-implied}
@@ -71,22 +71,22 @@ title-line = printed-line (bytesOf "sheet") (each-from-space (bytesOf "sheet") t
 printed : (line : List ℕ) → Each (λ (b : ℕ). (32 ≤ b) × (b ≤ 126)) line → OneLine line
 printed line p = printed-line line (each-implied (λ (b : ℕ). (32 ≤ b) × (b ≤ 126)) (λ (b : ℕ). 32 ≤ b) (λ b h. h .0) line p)
 
-comment-line : (i : ℕ) → i < count → OneLine (comment i)
-comment-line i h =
+comment-line : (i : ℕ) → OneLine (comment i)
+comment-line i =
     printed-line (comment i)
     (each-append (λ (b : ℕ). 32 ≤ b) (bytesOf "# ") (expectedText i) (omega arith & omega arith & tt)
     (each-implied (λ (b : ℕ). (32 ≤ b) × (b ≤ 126)) (λ (b : ℕ). 32 ≤ b) (λ b t. t .0) (expectedText i) (expected-in-print i)))
 
-form-lines : (i m : ℕ) → i + m ≤ count → Each OneLine (formLines i m)
-form-lines i zero h = tt
-form-lines i (suc m) h =
-    (comment-line i (omega arith), (printed (blankText i) (blank-in-print i), form-lines (i + 1) m (omega arith)))
+form-lines : (i m : ℕ) → Each OneLine (formLines i m)
+form-lines i zero = tt
+form-lines i (suc m) =
+    (comment-line i, (printed (blankText i) (blank-in-print i), form-lines (i + 1) m))
 
 -- the first kept lines of the form
 lines-of-form : linesOf formText ≡ firstComment ∷ bytesOf "sheet" ∷ formLines 0 count
 lines-of-form =
     rw form-text
-    (lines-of-text (firstComment ∷ bytesOf "sheet" ∷ formLines 0 count) (first-line, (title-line, form-lines 0 count (omega arith))))
+    (lines-of-text (firstComment ∷ bytesOf "sheet" ∷ formLines 0 count) (first-line, (title-line, form-lines 0 count)))
 
 -- a line that begins with `#` is passed over, and the form's first row is not
 passed : (line rest : List ℕ) (lines : List (List ℕ)) → line ≡ 35 ∷ rest → OneLine line → keptOf (line ∷ lines) ≡ keptOf lines
@@ -120,7 +120,7 @@ kept-form =
     (passed firstComment _ (bytesOf "sheet" ∷ formLines 0 count) refl first-line
     ∙ stays (bytesOf "sheet") (formLines 0 count) title-line title-stays
     ∙ ap (λ (l : List (List ℕ)). bytesOf "sheet" ∷ l)
-    (passed (comment 0) (32 ∷ expectedText 0) (blankText 0 ∷ formLines 1 27) refl (comment-line 0 (omega arith))
+    (passed (comment 0) (32 ∷ expectedText 0) (blankText 0 ∷ formLines 1 27) refl (comment-line 0)
     ∙ stays (blankText 0) (formLines 1 27) (printed (blankText 0) (blank-in-print 0)) row-stays))
 
 no-clear : (figures : List ℕ) (lines : List (List ℕ)) → Clear Between figures (bytesOf "sheet" ∷ blankText 0 ∷ lines) → ⊥

@@ -4,13 +4,11 @@ use mathlib.Core.Bool.{Bool, true, false}
 use mathlib.Core.List.{List, [], _∷_, _++_, map}
 use Prim.Native.Nat.{ℕ, zero, suc, _+_, _-_, _*_, _^_, _≤_, _<_, min}
 use native.Mathlib.Omega.{arith}
-use borrow.Author.Tests.{ltb-true, ltb-false, le-ltb, ne-eqb}
-use lib.Dec.{T, ltb, eqb, leb, ltb→lt}
-use lib.ListN.{length, take, drop, length-append, length-take, length-map, List·getD-eq-default}
+use lib.Dec.{T, eqb, leb, ltb→lt}
+use lib.ListN.{length, take, drop, length-append, length-take, length-map}
 use Rattle.laws.proofs.Every.{every-at}
 use Rattle.laws.specs.Choice.{if_then_else_, _<ᵇ_}
 use Rattle.laws.specs.Every.{every}
-use Rattle.lines.specs.Decimals.{digitsWithin, digits, countText}
 use Rattle.lines.proofs.Promises.{count-fits}
 use Rattle.sheet.specs.Fields.{fields, fieldAt, greatest, rangeOf, firstBad}
 use Rattle.sheet.specs.Packing.{bytesOf as packedOf}
@@ -22,8 +20,7 @@ use Rattle.sheet.specs.declared.SheetRead.{SheetRead}
 use Rattle.sheet.specs.declared.SheetRead.the-variants.{Good, NoSheet as NotRead}
 use Rattle.sheet.proofs.Promises.{field-within}
 use Rattle.sheet.proofs.sheets.OneWriting.{bytes-length}
-use Rattle.typed.specs.Rows.{bytesOf, count, rows, rowAt, valuesOf}
-use Rattle.typed.specs.Lines.{token, figureText, behind, unitText, nameText, frontText, rowText, spanText, linesText, expectedText}
+use Rattle.typed.specs.Rows.{bytesOf, count, valuesOf}
 use Rattle.typed.proofs.Promises.{line-fits-room, blank-fits-room, expected-fits-room}
 use Rattle.texts.specs.Messages.{messageBytes, reasonText, shown, seen, seenText, quotedText, stoodText, expectedFor, messageText}
 use Rattle.texts.specs.Shown.{shownBytes, formBytes, sheetBytes, rowFigure, rowLine, rowsText, refusedText, readText, shownText, sheetText, formRow, formRows, formText}
@@ -44,19 +41,18 @@ sheet-fits figures = go (eqb (firstBad figures) 0)
     go false = omega arith
 
 -- the form: at most 596 bytes a row
-form-row-fits : (i : ℕ) → i < count → length (formRow i) ≤ 596
+form-row-fits : (i : ℕ) → length (formRow i) ≤ 596
 unfolding formRow
-form-row-fits i h = simp length-append (omega (arith, expected-fits-room i, blank-fits-room i))
+form-row-fits i = simp length-append (omega (arith, expected-fits-room i, blank-fits-room i))
 
-form-rows-fit : (i m : ℕ) → i + m ≤ count → length (formRows i m) ≤ 596 * m
+form-rows-fit : (i m : ℕ) → length (formRows i m) ≤ 596 * m
 unfolding formRows
-form-rows-fit i zero h = omega arith
-form-rows-fit i (suc m) h =
-    omega (arith, length-append (formRow i) (formRows (i + 1) m), form-row-fits i (omega arith), form-rows-fit (i + 1) m (omega arith))
+form-rows-fit i zero = omega arith
+form-rows-fit i (suc m) = omega (arith, length-append (formRow i) (formRows (i + 1) m), form-row-fits i, form-rows-fit (i + 1) m)
 
 pub form-fits : length formText ≤ formBytes
 unfolding formText
-form-fits = omega (arith, form-rows-fit 0 count (omega arith))
+form-fits = omega (arith, form-rows-fit 0 count)
 
 -- every figure of a row is of 32 bits
 smallRow : ℕ → Bool
@@ -146,29 +142,17 @@ stood-fits text place = go (place .ended)
     go true = omega arith
     go false = quoted-fits (take (place .end - place .start) (drop (place .start) text))
 
--- what is expected, past the rows too
-past-rows : (row : ℕ) → count ≤ row → length (expectedText row) ≤ 512
-unfolding expectedText linesText spanText rowText frontText nameText figureText unitText behind token countText digits digitsWithin valuesOf rowAt rows
-past-rows row h =
-    rw (List·getD-eq-default rows _ h, le-ltb row 26 (omega arith), ne-eqb row 26 (λ (e : row ≡ 26). omega arith), le-ltb row count h) (omega arith)
-
-any-expected : (row : ℕ) → length (expectedText row) ≤ 512
-any-expected row = go (ltb row count) refl
-  where
-    go : (b : Bool) → ltb row count ≡ b → length (expectedText row) ≤ 512
-    go true p = expected-fits-room row
-    go false p = past-rows row (ltb-false row count p)
-
+-- what is expected
 expected-fits : (fault : LineFault) (row : ℕ) → length (expectedFor fault row) ≤ 512
 expected-fits NoSheet row = omega arith
-expected-fits Missing row = any-expected row
-expected-fits NoName row = any-expected row
-expected-fits Twice row = any-expected row
-expected-fits Misplaced row = any-expected row
-expected-fits NoFigure row = any-expected row
-expected-fits NoUnit row = any-expected row
-expected-fits OutOfRange row = any-expected row
-expected-fits Disagrees row = any-expected row
+expected-fits Missing row = expected-fits-room row
+expected-fits NoName row = expected-fits-room row
+expected-fits Twice row = expected-fits-room row
+expected-fits Misplaced row = expected-fits-room row
+expected-fits NoFigure row = expected-fits-room row
+expected-fits NoUnit row = expected-fits-room row
+expected-fits OutOfRange row = expected-fits-room row
+expected-fits Disagrees row = expected-fits-room row
 
 pub message-fits : (text : List ℕ) (fault : LineFault) (row : ℕ) (place : Place) → place .line < 2 ^ 64
     → length (messageText text fault row place) ≤ messageBytes

@@ -1,24 +1,23 @@
 -- The bytes of a sheet's figures, written into a part of a buffer.
-use mathlib.Core.Path.{_≡_, refl, sym, ap, _∙_}
+use mathlib.Core.Path.{_≡_, refl}
 use mathlib.Core.Bool.{Bool, true, false}
-use mathlib.Core.List.{List, [], _++_, append-nil}
+use mathlib.Core.List.{List, [], append-nil}
 use Prim.Native.Nat.{ℕ, _+_, _-_, _≤_}
 use native.Mathlib.Omega.{arith}
-use borrow.Author.Tests.{le-ltb, eq-eqb, eqb-true, eqb-false, ne-eqb}
+use borrow.Author.Tests.{le-ltb, eq-eqb, eqb-true, ne-eqb}
 use borrow.Rule.Slice.PartMut.{midOf, putMid}
 use lib.Dec.{eqb}
-use lib.ListN.{length, take, drop, length-drop, drop-of-length-le}
+use lib.ListN.{length, drop, length-drop, drop-of-length-le}
 use lib.Seq.{take-all, drop-drop}
 use Rattle.laws.specs.Choice.{if_then_else_}
 use Rattle.lines.specs.Lines.{withText, Put}
 use Rattle.lines.proofs.putting.Placing.{put-none}
 use Rattle.sheet.specs.Fields.{count, firstBad}
-use Rattle.sheet.specs.Packing.{size, bytesOf}
-use Rattle.sheet.specs.Sheets.{sheetOf, sheetFrom, figuresOf, placeOf}
+use Rattle.sheet.specs.Packing.{size}
+use Rattle.sheet.specs.Sheets.{sheetOf, sheetFrom, placeOf}
 use Rattle.sheet.specs.declared.Sheet.{Sheet}
 use Rattle.sheet.specs.declared.ReadFault.{ReadFault}
 use Rattle.sheet.specs.declared.ReadFault.the-variants.{BadField}
-use Rattle.sheet.specs.declared.SheetRead.{SheetRead}
 use Rattle.sheet.specs.declared.SheetRead.the-variants.{Good, NoSheet}
 use Rattle.sheet.proofs.Promises.{figures-come-back}
 use Rattle.sheet.proofs.sheets.OneWriting.{bytes-length}

@@ -1,10 +1,10 @@
 -- The next thing found from a cursor on: by its line, by the lines behind it, or at the end of the text.
-use mathlib.Core.Path.{_≡_, refl, ap, sym, _∙_}
+use mathlib.Core.Path.{_≡_}
 use mathlib.Core.Bool.{true, false}
 use mathlib.Core.List.{List}
 use Prim.Native.Nat.{ℕ, _≤_, _<_}
 use lib.ListN.{length, drop}
-use Rattle.texts.specs.Cutting.{lineOf, linesOf}
+use Rattle.texts.specs.Cutting.{lineOf}
 use Rattle.texts.specs.Texts.{happenedIn, turnOn, endedAt, foundIn, nextOf}
 use Rattle.texts.specs.declared.Cursor.{Cursor}
 use Rattle.texts.specs.declared.Found.{Found}

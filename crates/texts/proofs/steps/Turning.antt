@@ -1,16 +1,15 @@
 -- One line read off a text: its bytes, its end without a carriage return, and what is found then.
-use mathlib.Core.Path.{_≡_, refl, ap, sym, _∙_}
+use mathlib.Core.Path.{_≡_, refl, ap, _∙_}
 use mathlib.Core.Bool.{Bool, true, false}
 use mathlib.Core.List.{List, [], _∷_}
-use Prim.Native.Nat.{ℕ, suc, _+_, _-_, _≤_, _<_, min}
+use Prim.Native.Nat.{ℕ, _+_, _-_, _≤_, min}
 use native.Mathlib.Omega.{arith}
-use borrow.Author.Tests.{eqb-true}
 use lib.Dec.{eqb}
 use lib.ListN.{length, take, drop, length-take, length-drop}
 use Rattle.laws.specs.Choice.{if_then_else_}
 use Rattle.texts.specs.Cutting.{newline, return, lineOf, bare, nextNumber}
 use Rattle.texts.specs.Steps.{lineStep}
-use Rattle.texts.specs.Texts.{foundBy, turnOn}
+use Rattle.texts.specs.Texts.{turnOn}
 use Rattle.texts.specs.declared.Cursor.{Cursor}
 use Rattle.texts.specs.declared.Found.{Found}
 use Rattle.texts.specs.declared.steps.Step.{Step}

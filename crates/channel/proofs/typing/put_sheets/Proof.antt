@@ -7,7 +7,7 @@ use Rattle.texts.specs.Shown.{sheetBytes}
 use Rattle.texts.specs.Texts.{allOf}
 use Rattle.texts.specs.Typed.{allFrom}
 use Rattle.texts.specs.declared.Found.{Found}
-use Rattle.channel.specs.Output.{Lines, withLines}
+use Rattle.channel.specs.Output.{withLines}
 use Rattle.channel.specs.Typing.{linesAt, bytesOfSheets}
 use Rattle.channel.proofs.Faults.{fewer-left, sheet-put, sheets-put, all-left}
 use Rattle.channel.proofs.typing.put_sheets.Statement.{statement}

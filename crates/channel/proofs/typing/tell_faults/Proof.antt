@@ -1,13 +1,11 @@
 -- `channel::typing::tell_faults` meets its contract. The loop's invariant: a fault was told, or is among what is left. The measure is what is left.
-use mathlib.Core.Path.{_≡_, refl, ap, sym, _∙_}
+use mathlib.Core.Path.{_≡_, ap, sym, _∙_}
 use mathlib.Core.Bool.{true}
-use mathlib.Core.List.{List}
 use borrow.Author.Needs.{needs}
 use lib.ListN.{length}
 use Rattle.laws.specs.Choice.{if_then_else_}
 use Rattle.texts.specs.Texts.{allOf}
 use Rattle.texts.specs.Typed.{allFrom}
-use Rattle.texts.specs.declared.Found.{Found}
 use Rattle.channel.specs.Typing.{anyFault}
 use Rattle.channel.proofs.Faults.{fewer-left, fault-told, all-told, all-left}
 use Rattle.channel.proofs.typing.tell_faults.Statement.{statement}

@@ -1,6 +1,5 @@
 -- `channel::typing::type_text` meets its contract: past the test of the faults there is none, and then all bytes are put.
 use mathlib.Core.Path.{sym, _∙_}
-use native.Mathlib.Omega.{arith}
 use borrow.Author.Needs.{needs}
 use Rattle.channel.proofs.Faults.{bytes-out}
 use Rattle.channel.proofs.typing.type_text.Statement.{statement}

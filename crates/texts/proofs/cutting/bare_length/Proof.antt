@@ -1,11 +1,10 @@
 -- `texts::cutting::bare_length` meets its contract: an empty line, one that ends in a carriage return, and any other.
-use mathlib.Core.Path.{_≡_, refl, sym, ap, _∙_}
-use Prim.Native.Nat.{_+_, _-_}
+use mathlib.Core.Path.{refl, sym}
+use Prim.Native.Nat.{_-_}
 use native.Mathlib.Omega.{arith}
 use borrow.Author.Needs.{needs}
-use lib.ListN.{length, take}
+use lib.ListN.{length}
 use lib.Seq.{take-all}
-use Rattle.texts.specs.Cutting.{bare}
 use Rattle.texts.proofs.cutting.Lines.{bare-none, bare-return, bare-same}
 use Rattle.texts.proofs.cutting.bare_length.Statement.{statement}
 use Rattle.texts.proofs.cutting.bare_length.Tie as tie

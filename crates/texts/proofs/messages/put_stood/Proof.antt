@@ -1,7 +1,7 @@
 -- `texts::messages::put_stood` meets its contract: that the text ends, or the line between quotes.
 use native.Mathlib.Omega.{arith}
 use borrow.Author.Needs.{needs}
-use Rattle.texts.specs.Messages.{stoodText, quotedText}
+use Rattle.texts.specs.Messages.{stoodText}
 use Rattle.texts.proofs.messages.Parts.{same-part}
 use Rattle.texts.proofs.messages.put_stood.Statement.{statement}
 use Rattle.texts.proofs.messages.put_stood.Tie as tie

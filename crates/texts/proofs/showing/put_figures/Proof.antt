@@ -1,7 +1,6 @@
 -- `texts::showing::put_figures` meets its contract: figures that make a sheet are written, and others put nothing.
 use mathlib.Core.Path.{sym, _∙_}
 use borrow.Author.Needs.{needs}
-use native.Mathlib.Omega.{arith}
 use Rattle.texts.proofs.showing.Sheets.{nothing-put, sheet-put}
 use Rattle.texts.proofs.showing.put_figures.Statement.{statement}
 use Rattle.texts.proofs.showing.put_figures.Tie as tie

@@ -1,6 +1,5 @@
 -- `texts::showing::row_figure` meets its contract: each way out is a case of `rowFigure`.
 use borrow.Author.Needs.{needs}
-use native.Mathlib.Omega.{arith}
 use borrow.Author.Tests.{lt-ltb, le-ltb, eq-eqb, ne-eqb}
 use Rattle.texts.specs.Shown.{rowFigure}
 use Rattle.texts.proofs.showing.row_figure.Statement.{statement}

@@ -1,9 +1,7 @@
 -- `texts::steps::accepted_in` meets its contract: each way out is a case of how the figure stands.
-use mathlib.Core.Path.{_≡_, sym, _∙_}
 use borrow.Author.Needs.{needs}
 use borrow.Author.Tests.{lt-ltb, le-ltb}
-use Rattle.sheet.specs.Fields.{standingOf}
-use Rattle.texts.specs.Steps.{fieldOf, acceptedIn}
+use Rattle.texts.specs.Steps.{acceptedIn}
 use Rattle.texts.proofs.steps.accepted_in.Statement.{statement}
 use Rattle.texts.proofs.steps.accepted_in.Tie as tie
 

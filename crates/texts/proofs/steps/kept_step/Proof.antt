@@ -1,5 +1,4 @@
 -- `texts::steps::kept_step` meets its contract: a line that begins a sheet, and any other by its stage.
-use mathlib.Core.Path.{sym, _∙_}
 use borrow.Author.Needs.{needs}
 use Rattle.texts.specs.Steps.{stepOf}
 use Rattle.texts.proofs.steps.kept_step.Statement.{statement}

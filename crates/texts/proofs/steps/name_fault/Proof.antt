@@ -1,5 +1,4 @@
 -- `texts::steps::name_fault` meets its contract: each way out is a case of `nameFault`.
-use mathlib.Core.Path.{sym, _∙_}
 use borrow.Author.Needs.{needs}
 use borrow.Author.Tests.{eq-eqb, ne-eqb, lt-ltb, le-ltb}
 use Rattle.texts.specs.Steps.{nameFault}
