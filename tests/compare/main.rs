@@ -29,6 +29,7 @@ mod texts;
 mod typing;
 mod widths;
 mod worked;
+mod worksheets;
 
 fn main() {
     let name = std::env::args().nth(1).unwrap_or_default();
@@ -49,6 +50,7 @@ fn main() {
         "printing" => printing::printing(),
         "typing" => typing::typing(),
         "showing" => typing::showing(),
+        "worksheets" => worksheets::worksheets(),
         _ => {
             eprintln!("compare: no comparison is called '{name}'");
             std::process::exit(2);

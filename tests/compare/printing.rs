@@ -74,7 +74,7 @@ const RANGES: [i32; 16] = [
 ];
 
 /// The level file of a record: none, empty, an odd byte, the definition's, a full slot, each range, and random ones.
-fn levels_of(record: u64, rng: &mut Random) -> Option<Vec<u8>> {
+pub fn levels_of(record: u64, rng: &mut Random) -> Option<Vec<u8>> {
     let readings = match record {
         1 => return None,
         2 => vec![],
@@ -97,7 +97,7 @@ fn valid(rng: &mut Random) -> Vec<u8> {
 }
 
 /// A damaged sheet of 28 bytes, so that those behind it stay where they are.
-fn damaged_whole(rng: &mut Random) -> Vec<u8> {
+pub fn damaged_whole(rng: &mut Random) -> Vec<u8> {
     loop {
         let bytes = random::damaged(rng);
         if bytes.len() == BYTES {

@@ -21,14 +21,20 @@ fn command() -> Command {
     command
 }
 
+/// Puts a record, or none, in the folder of a run.
+pub fn set_levels(name: &str, levels: Option<&[u8]>) {
+    let file = folder(name).join("levels.bin");
+    match levels {
+        Some(bytes) => fs::write(file, bytes).expect("levels.bin is written"),
+        None => drop(fs::remove_file(file)),
+    }
+}
+
 /// What it prints. It must end well and say nothing on standard error; its inputs are kept where it does not.
 pub fn printed(name: &str, levels: Option<&[u8]>, sheets: &[u8]) -> Vec<u8> {
+    set_levels(name, levels);
     let folder = folder(name);
-    let (levels_file, sheets_file) = (folder.join("levels.bin"), folder.join("sheets.bin"));
-    match levels {
-        Some(bytes) => fs::write(levels_file, bytes).expect("levels.bin is written"),
-        None => drop(fs::remove_file(levels_file)),
-    }
+    let sheets_file = folder.join("sheets.bin");
     fs::write(&sheets_file, sheets).expect("sheets.bin is written");
     let input = File::open(&sheets_file).expect("sheets.bin is there");
     let ran = command()

@@ -77,10 +77,10 @@ fn beginning(rng: &mut Random) -> Vec<u8> {
     }
 }
 
-/// A sheet with a name, lines that are passed over, and ends of either kind.
-fn dressed(rng: &mut Random, figures: &[i64; FIELDS]) -> Vec<u8> {
+/// A sheet behind the line that begins it, with lines that are passed over, and ends of either kind.
+pub fn dressed(rng: &mut Random, beginning: Vec<u8>, figures: &[i64; FIELDS]) -> Vec<u8> {
     let mut lines = lines_of(figures);
-    lines[0] = beginning(rng);
+    lines[0] = beginning;
     let (between, returns) = (rng.pick(&[0, 2, 20]), rng.pick(&[0, 50, 100]));
     let mut text = Vec::new();
     for line in lines {
@@ -102,7 +102,8 @@ pub fn right_text(rng: &mut Random, sheets: usize) -> Vec<u8> {
     let mut text = Vec::new();
     for _ in 0..sheets {
         let figures = random::valid_sheet(rng);
-        text.extend(dressed(rng, &figures));
+        let beginning = beginning(rng);
+        text.extend(dressed(rng, beginning, &figures));
     }
     match rng.below(4) {
         0 => drop(text.pop()),

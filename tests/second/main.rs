@@ -1,5 +1,5 @@
 //! `second`: with no argument, the printing program; with `type`, `show` or `form`, the typed sheet's commands; with
-//! `figures`, the definition's figures.
+//! `worksheet` or `worksheet-text`, the pages that are signed; with `figures`, the definition's figures.
 
 mod figures;
 #[path = "second.rs"]
@@ -45,6 +45,14 @@ fn form() -> io::Result<()> {
     io::stdout().write_all(&second::typed::form())
 }
 
+/// The pages of bytes, or of a text; a fault is told as by `type`.
+fn worksheet(pages: fn(Option<&[u8]>, &[u8]) -> (Vec<u8>, Vec<u8>)) -> io::Result<()> {
+    let levels = levels_file()?;
+    let (text, said) = pages(levels.as_deref(), &standard_input()?);
+    io::stdout().write_all(&text)?;
+    io::stderr().write_all(&said)
+}
+
 fn is_done(done: io::Result<()>) -> bool {
     done.map_err(|error| eprintln!("second: {error}")).is_ok()
 }
@@ -57,9 +65,13 @@ fn main() -> ExitCode {
         ["type"] => is_done(type_text()),
         ["show"] => is_done(show()),
         ["form"] => is_done(form()),
+        ["worksheet"] => is_done(worksheet(second::worksheet::of_bytes)),
+        ["worksheet-text"] => is_done(worksheet(second::worksheet::of_text)),
         ["figures"] => figures::all_right() & typed_figures::all_right(),
         _ => {
-            eprintln!("second: no argument, `type`, `show`, `form` or `figures`");
+            eprintln!(
+                "second: no argument, `type`, `show`, `form`, `worksheet`, `worksheet-text` or `figures`"
+            );
             false
         }
     };

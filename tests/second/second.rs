@@ -12,6 +12,7 @@ pub mod sheet;
 pub mod speed;
 pub mod typed;
 pub mod width;
+pub mod worksheet;
 
 /// "Rounded up", of a quotient that is not negative.
 pub fn rounded_up(above: i64, below: i64) -> i64 {

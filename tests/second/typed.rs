@@ -338,6 +338,15 @@ pub fn read(text: &[u8]) -> Result<Vec<u8>, Vec<Fault>> {
     }
 }
 
+/// The name of each sheet of a text, empty where it has none: what stands behind `sheet` and a space.
+pub fn names(text: &[u8]) -> Vec<Vec<u8>> {
+    let beginnings = lines_of(text).into_iter().filter_map(|line| line.bytes);
+    let named = beginnings.filter(|line| begins_sheet(line));
+    named
+        .map(|line| line.strip_prefix(b"sheet ").unwrap_or_default().to_vec())
+        .collect()
+}
+
 /// The bytes of all sheets, or a message for each faulty one.
 pub fn read_text(text: &[u8]) -> Result<Vec<u8>, Vec<Vec<u8>>> {
     read(text).map_err(|faults| faults.iter().map(message).collect())
@@ -469,11 +478,16 @@ pub fn form() -> Vec<u8> {
 /// The longest text that it reads.
 pub const LONGEST: usize = 4_194_304;
 
+/// What is said of an input that is too long.
+pub fn too_long(input: &[u8]) -> Option<Vec<u8>> {
+    let said = || format!("standard input: longer than {LONGEST} bytes\n").into_bytes();
+    (input.len() > LONGEST).then(said)
+}
+
 /// What it writes to standard output and to standard error.
 pub fn type_text(text: &[u8]) -> (Vec<u8>, Vec<u8>) {
-    if text.len() > LONGEST {
-        let said = format!("standard input: longer than {LONGEST} bytes\n");
-        return (vec![], said.into_bytes());
+    if let Some(said) = too_long(text) {
+        return (vec![], said);
     }
     match read(text) {
         Ok(bytes) => (bytes, vec![]),

@@ -7,6 +7,7 @@ mod Taking
 mod Printing
 mod Shows
 mod Faults
+mod Bundles
 mod Whole
 mod Routes
 mod Starred

@@ -1,4 +1,4 @@
--- What the program promises, printing (section 10), showing (14.5) and typing (14.3). `TextPrinted` of specs/Printing.antt is what `print` ensures,
+-- What the program promises, printing (section 10), showing (14.5), typing (14.3) and its worksheets (15). `TextPrinted` of specs/Printing.antt is what `print` ensures,
 -- `TextShown` of specs/Showing.antt what `show` does, `TypedOut` of specs/Typing.antt what `type_text` does, and `main` writes the rest that they leave; `printed` of specs/Text.antt and `shown` are the texts.
 use mathlib.Core.Path.{_≡_, ap, _∙_}
 use mathlib.Core.List.{List, [], _∷_, _++_, flatten}
@@ -11,6 +11,7 @@ use lib.ListN.{length, take, drop}
 use Rattle.laws.specs.Rounding.{up}
 use Rattle.sheet.specs.CaseS.{sheetS}
 use Rattle.class.specs.Classes.{routeClass}
+use Rattle.gauge.specs.Designing.{levelSteps}
 use Rattle.gauge.specs.declared.LevelRead.{LevelRead}
 use Rattle.record.specs.Counting.{greatest}
 use Rattle.lines.specs.Lines.{lineBytes}
@@ -18,18 +19,22 @@ use Rattle.design.specs.Design.{designAt}
 use Rattle.design.specs.Numbers.{codeOf}
 use Rattle.design.specs.Starred.{writing}
 use Rattle.design.proofs.Promises.{other-length-one}
+use Rattle.worksheet.specs.Framing.{pageBytes}
 use Rattle.texts.specs.Shown.{shownBytes, sheetBytes, shownText}
 use Rattle.texts.specs.Texts.{allOf}
 use Rattle.texts.specs.Typed.{Faultless, typedBytes}
 use Rattle.channel.specs.Input.{Input, inputOf, Came}
 use Rattle.channel.specs.Output.{Lines, standing, withLines, written}
 use Rattle.channel.specs.Route.{noSheets}
-use Rattle.channel.specs.Text.{sheetsOf, routeAfter, shipsOfAll, howManyAnswered, linesOf, printed}
+use Rattle.channel.specs.Text.{sheetsOf, recordTable, recordCounts, routeAfter, shipsOfAll, howManyAnswered, linesOf, printed}
 use Rattle.channel.specs.Printing.{fileBlock, inputBlock, TextPrinted}
 use Rattle.channel.specs.Showing.{shownTexts, textsOf, shown, TextShown}
 use Rattle.channel.specs.Typing.{anyFault, bytesOfSheets, TypedOut}
+use Rattle.channel.specs.Worksheets.{itemsOf, worksheetLines, worksheetsText, Accepted, OverRecord}
 use Rattle.channel.specs.Starred.{textOfS}
 use Rattle.channel.specs.declared.Text.the-variants.{Whole}
+use Rattle.channel.specs.declared.worksheets.Source.{Source}
+use Rattle.channel.specs.declared.worksheets.Source.the-variants.{Typed}
 use Rattle.channel.proofs.Lines.{all-lines}
 use Rattle.channel.proofs.Cuts.{next-sheet, no-sheet, in-two, joined, how-many}
 use Rattle.channel.proofs.Routes as the-route
@@ -110,3 +115,16 @@ text-is-typed text buffer later rest out = out
 -- It tells no fault exactly where there is none.
 pub no-fault-exactly : (text : List ℕ) → (anyFault (allOf text) ≡ false) ↔ Faultless text
 no-fault-exactly = none-told-exactly
+
+-- The words worksheet and worksheet-text: whatever blocks the record came in, what was written and the rest in the buffer are together the pages of the input's sheets and
+-- of their route, over that record.
+pub pages-are-written : (source : Source) (input buffer later : List ℕ) (rest : ℕ) → OverRecord source input buffer (Whole rest) later
+    → (file : Input) × Came fileBlock file × (Accepted source input
+    × (written pageBytes (worksheetLines (levelSteps (recordTable (inputOf file))) (recordCounts (inputOf file)) (itemsOf source input)) (record { at = 0; buffer = buffer })
+    ++ take rest later
+    ≡ worksheetsText (levelSteps (recordTable (inputOf file))) (recordCounts (inputOf file)) (itemsOf source input)))
+pages-are-written source input buffer later rest ensured = ensured
+
+-- There are none of a text with a fault.
+pub pages-of-faultless : (text buffer later : List ℕ) (rest : ℕ) → OverRecord Typed text buffer (Whole rest) later → Faultless text
+pages-of-faultless text buffer later rest ensured = ensured .2 .0

@@ -7,3 +7,4 @@ pub mod Printing
 pub mod Showing
 pub mod Typing
 pub mod Starred
+pub mod Worksheets

@@ -1,9 +1,11 @@
-// The program: sheets in, a line a sheet out (definition, section 10); and the words type, show and form (section 14).
+// The program: sheets in, a line a sheet out (definition, section 10); the words type, show and form (section 14); and the worksheets (section 15).
 ghost use Prim.Native.Nat.{_≤_};
 ghost use lib.ListN.{length};
 ghost use Rattle.lines.specs.Lines.{lineBytes};
 ghost use Rattle.channel.specs.Printing.{LinesPrinted, TextPrinted};
 use crate::levels::Loaded;
+use crate::reading::Task;
+use crate::worksheets::Source;
 use gauge::LevelRead;
 use libc::STDERR_FILENO;
 use record::Counts;
@@ -11,10 +13,12 @@ use record::Counts;
 mod input;
 mod levels;
 mod output;
+mod reading;
 mod route;
 mod sheets;
 mod showing;
 mod typing;
+mod worksheets;
 
 // The whole text, with so many bytes of it still in the buffer; or that it was cut short.
 enum Text {
@@ -54,17 +58,23 @@ fn of_word(words: usize, word: &[u8], buffer: &mut [u8]) -> Text
         return print(buffer);
     }
     if same_word(word, b"type") {
-        return typing::type_all(buffer);
+        return reading::of_input(Task::Type, buffer);
     }
     if same_word(word, b"show") {
         return showing::show(buffer);
+    }
+    if same_word(word, b"worksheet") {
+        return reading::of_input(Task::Worksheets(Source::Bytes), buffer);
+    }
+    if same_word(word, b"worksheet-text") {
+        return reading::of_input(Task::Worksheets(Source::Typed), buffer);
     }
     if same_word(word, b"form") {
         return Text::Whole(texts::put_form(buffer, 0));
     }
     io::write_all(
         STDERR_FILENO,
-        b"no such word: type, show and form are known\n",
+        b"no such word: type, show, form, worksheet and worksheet-text are known\n",
     );
     Text::Cut
 }

@@ -1,4 +1,4 @@
-// A typed text from standard input, as the bytes of its sheets (definition, section 14.3).
+// A typed text, as the bytes of its sheets (definition, section 14.3).
 ghost use mathlib.Core.Path.{_≡_};
 ghost use mathlib.Core.Bool.{true};
 ghost use Prim.Native.Nat.{_≤_};
@@ -9,19 +9,13 @@ ghost use Rattle.texts.specs.Shown.{sheetBytes, sheetText};
 ghost use Rattle.channel.specs.Output.{withLine};
 ghost use Rattle.channel.specs.Typing.{isOver, isFault, anyFault, linesAt, FoundPut, SheetsPut, TypedOut};
 use crate::Text;
-use crate::input;
-use crate::input::Filled;
 use crate::output;
 use crate::output::Out;
 use libc::STDERR_FILENO;
-use libc::STDIN_FILENO;
 use texts::Event;
 use texts::Found;
 use texts::LineFault;
 use texts::Place;
-
-// The bytes of the longest text.
-const LONGEST: usize = 4194304;
 
 // The bytes of a message.
 const MESSAGE: usize = 1024;
@@ -50,7 +44,7 @@ fn tell_found(text: &[u8], found: Found) -> bool
 }
 
 // Whether there is nothing more.
-fn is_over(event: Event) -> bool
+pub fn is_over(event: Event) -> bool
     ensures { λ r. ⌜ r ≡ isOver event ⌝ }
 {
     match event {
@@ -70,7 +64,7 @@ fn either(a: bool, b: bool) -> bool
 }
 
 // Tells every fault of a text; whether it has one.
-fn tell_faults(text: &[u8]) -> bool
+pub fn tell_faults(text: &[u8]) -> bool
     ensures { λ r. ⌜ r ≡ anyFault (allOf (now (text .entry))) ⌝ }
 {
     let mut now = texts::begin();
@@ -133,7 +127,7 @@ fn put_sheets(text: &[u8], buffer: &mut [u8]) -> Out
 }
 
 // The bytes of a text without a fault, the last of them still in the buffer; nothing is written of any other text.
-fn type_text(text: &[u8], buffer: &mut [u8]) -> Text
+pub fn type_text(text: &[u8], buffer: &mut [u8]) -> Text
     requires { ⌜ sheetBytes ≤ length (now buffer) ⌝ }
     ensures { λ r. ⌜ TypedOut (now (text .entry)) (now (buffer .entry)) r (now (buffer .exit)) ⌝ }
 {
@@ -145,45 +139,4 @@ fn type_text(text: &[u8], buffer: &mut [u8]) -> Text
         return Text::Whole(out.at);
     }
     Text::Cut
-}
-
-// What standard input has behind a text that fills its space: a byte, none, or a read that fails.
-fn behind() -> Filled {
-    let mut space = [0u8; 1];
-    input::fill(STDIN_FILENO, &mut space)
-}
-
-// The space of the longest text.
-fn text_space() -> [u8; LONGEST]
-    ensures { λ r. ⌜ 4194304 ≡ length r ⌝ }
-{
-    [0; LONGEST]
-}
-
-// The bytes of the text on standard input.
-pub fn type_all(buffer: &mut [u8]) -> Text
-    requires { ⌜ sheetBytes ≤ length (now buffer) ⌝ }
-{
-    let mut space = text_space();
-    let filled = input::fill(STDIN_FILENO, &mut space);
-    if filled.failed {
-        os::fail(b"standard input");
-        return Text::Cut;
-    }
-    if !filled.ended {
-        let rest = behind();
-        if rest.failed {
-            os::fail(b"standard input");
-            return Text::Cut;
-        }
-        if 0 < rest.count {
-            io::write_all(
-                STDERR_FILENO,
-                b"standard input: longer than 4194304 bytes\n",
-            );
-            return Text::Cut;
-        }
-    }
-    let count = filled.count;
-    type_text(&space[..count], buffer)
 }

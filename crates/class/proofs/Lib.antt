@@ -1,4 +1,4 @@
-mod Limits
+mod Bounds
 mod Routes
 mod Starred
 pub mod Promises

@@ -10,9 +10,10 @@ use Rattle.datum.specs.Datum.{below}
 use Rattle.datum.specs.declared.BelowLevel.{BelowLevel}
 use Rattle.lanes.specs.declared.Lanes.{Lanes}
 use Rattle.lanes.specs.declared.Lanes.the-variants.{One, Two}
-use Rattle.class.specs.Classes.{shipClass, widthClass, depthClass, classesOf, InClass, withShip, routeClass}
+use Rattle.class.specs.Classes.{shipClass, widthClass, depthClass, classesOf, shipLimits, widthLimits, depthLimits, Around, InClass, withShip, routeClass}
 use Rattle.class.specs.declared.Classes.{Classes}
-use Rattle.class.proofs.Limits.{class-exactly, class-within}
+use Rattle.class.specs.declared.Limits.{Limits}
+use Rattle.class.proofs.Bounds.{class-exactly, class-within, limits-around}
 use Rattle.class.proofs.Routes.{smallest, one-more}
 use Rattle.class.proofs.Starred.{starred as the-starred}
 
@@ -54,6 +55,18 @@ width-class-within Two = class-within 24000 20000 16000 12000
 pub depth-class-within : (s : BelowLevel) → depthClass s ≤ 4
 depth-class-within s = class-within 1400 1100 900 800 (s .0)
 
+-- The limits that are shown stand around the figure: it has passed the one and is under the next, class 0 has no next and class 4 passed none,
+-- and just the figures between them have its class.
+pub ship-limits-around : (deadweight : ℕ) → Around shipClass deadweight (shipClass deadweight) (shipLimits deadweight)
+ship-limits-around = limits-around 40000 20000 10000 5000 (omega arith) (omega arith)
+
+pub width-limits-around : (lanes : Lanes) (width : ℕ) → Around (widthClass lanes) width (widthClass lanes width) (widthLimits lanes width)
+width-limits-around One = limits-around 11000 9000 7000 5000 (omega arith) (omega arith)
+width-limits-around Two = limits-around 24000 20000 16000 12000 (omega arith) (omega arith)
+
+pub depth-limits-around : (s : BelowLevel) → Around (λ cm. depthClass (below cm)) (s .0) (depthClass s) (depthLimits s)
+depth-limits-around s = limits-around 1400 1100 900 800 (omega arith) (omega arith) (s .0)
+
 -- One answer of each call.
 pub ship-unique : (deadweight r t : ℕ) → r ≡ shipClass deadweight → t ≡ shipClass deadweight → r ≡ t
 ship-unique deadweight = one-answer
@@ -67,6 +80,15 @@ depth-unique s = one-answer
 pub classes-unique : (deadweight width : ℕ) (lanes : Lanes) (s : BelowLevel) (r t : Classes)
     → r ≡ classesOf deadweight width lanes s → t ≡ classesOf deadweight width lanes s → r ≡ t
 classes-unique deadweight width lanes s = one-answer
+
+pub ship-limits-unique : (deadweight : ℕ) (r t : Limits) → r ≡ shipLimits deadweight → t ≡ shipLimits deadweight → r ≡ t
+ship-limits-unique deadweight = one-answer
+
+pub width-limits-unique : (lanes : Lanes) (width : ℕ) (r t : Limits) → r ≡ widthLimits lanes width → t ≡ widthLimits lanes width → r ≡ t
+width-limits-unique lanes width = one-answer
+
+pub depth-limits-unique : (s : BelowLevel) (r t : Limits) → r ≡ depthLimits s → t ≡ depthLimits s → r ≡ t
+depth-limits-unique s = one-answer
 
 pub none-answered-unique : (r t : ℕ) → r ≡ routeClass [] → t ≡ routeClass [] → r ≡ t
 none-answered-unique = one-answer

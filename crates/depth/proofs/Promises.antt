@@ -1,5 +1,5 @@
 -- What the depth promises, in the definition's order. Each proof cites the one that does the work.
-use mathlib.Core.Path.{_≡_, ap, _∙_}
+use mathlib.Core.Path.{_≡_, refl, ap, _∙_, subst}
 use mathlib.Core.Logic.{_↔_}
 use mathlib.Core.List.{List, map}
 use Prim.Native.Nat.{ℕ, _+_, _-_, _*_, _^_, _≤_, _<_}
@@ -14,22 +14,24 @@ use Rattle.depth.specs.declared.Stretch.{Stretch}
 use Rattle.depth.specs.declared.Column.{Column}
 use Rattle.depth.specs.declared.Column.the-variants.{A}
 use Rattle.depth.specs.declared.Try.{Try}
+use Rattle.depth.specs.declared.Allowances.{Allowances}
 use Rattle.depth.specs.declared.DepthFault.{DepthFault}
+use Rattle.depth.specs.declared.Finding.{Finding}
 use Rattle.depth.specs.declared.Finding.the-variants.{Unusable}
 use Rattle.depth.specs.declared.Worksheet.{Worksheet}
 use Rattle.depth.specs.declared.DepthFigures.{DepthFigures}
 use Rattle.depth.specs.declared.Depth.{Depth}
 use Rattle.depth.specs.declared.Depth.the-variants.{Cut, NoCut}
 use Rattle.depth.specs.Interval.{intervalOf}
-use Rattle.depth.specs.Squat.{none, columnNumber, squatReading, squatOf}
-use Rattle.depth.specs.Depth.{z3, naturalOf, filling, sailing, z4, Meets, AsDefined, Ranges, depthFaultNumber, depthNumber, NoDepthNumber}
+use Rattle.depth.specs.Squat.{none, columnNumber, squatReading, squatOf, fastestEntry}
+use Rattle.depth.specs.Depth.{allowancesOf, z3, naturalOf, filling, sailingWith, sailing, z4, Meets, AsDefined, Ranges, depthFaultNumber, depthNumber, NoDepthNumber}
 use Rattle.depth.specs.Worksheet.{endless, columnTry, blankTry, findingOf, tries, worksheetOf, answerOf, workDepth, Forward, Followed, Counted}
 use Rattle.depth.specs.Reasons.{IsFigure, SiltsUp, FirstUnusable, Reasoned, depthRows}
 use Rattle.depth.specs.Harder.{Harder, Deeper, NeverCured}
 use Rattle.depth.specs.Starred.{cases, figures}
-use Rattle.depth.proofs.squat.Table.{lanes-columns-speeds}
+use Rattle.depth.proofs.squat.Table.{lanes-columns-speeds, fastest-exactly}
 use Rattle.depth.proofs.walks.Tries.{tries-count}
-use Rattle.depth.proofs.walks.Filled.{work-of-last, last-line-is}
+use Rattle.depth.proofs.walks.Filled.{work-of-last, last-line-is, columns-are}
 use Rattle.depth.proofs.walks.Following.{one-following}
 use Rattle.depth.proofs.cuts.Settling as settling
 use Rattle.depth.proofs.cuts.LeastCut as least-cut
@@ -43,6 +45,16 @@ use Rattle.depth.proofs.Cases.{computed}
 pub squat-never-falls : (lanes lanes' : Lanes) (c c' : Column) (speed speed' : ℕ) → squatReading lanes ≤ squatReading lanes'
     → columnNumber c ≤ columnNumber c' → 2 ≤ speed → speed ≤ speed' → squatOf lanes c speed ≤ squatOf lanes' c' speed'
 squat-never-falls = lanes-columns-speeds
+
+-- From the table's first speed on, a column has an entry exactly when the speed is at most its fastest, one lane or two.
+pub entry-to-the-fastest : (lanes : Lanes) (c : Column) (speed : ℕ) → 2 ≤ speed → (squatOf lanes c speed < none) ↔ (speed ≤ fastestEntry c)
+entry-to-the-fastest = fastest-exactly
+
+-- The sailing depth is the draft, the allowances that are shown and the squat.
+pub sailing-of-allowances : (q : Stretch) (squat : ℕ)
+    → sailingWith q squat ≡ q .draft + allowancesOf q .list + allowancesOf q .keel + allowancesOf q .wave + squat
+unfolding sailingWith allowancesOf
+sailing-of-allowances q squat = refl
 
 -- Unless every cut silts up whole, the line of a column shows its figure, the least d that is at least s + z4 of d itself, and that z4.
 pub figure-shown : (q : Stretch) (c : Column) → ¬ SiltsUp q c
@@ -125,6 +137,9 @@ columns-one-to-three = tries-count
 pub columns-counted : (q : Stretch) → Counted q (workDepth q)
 columns-counted = least-cut.work-counted
 
+pub columns-of-the-worksheet : (q : Stretch) (f : DepthFigures) → workDepth q ≡ Cut f → f .columns ≡ worksheetOf q .count
+columns-of-the-worksheet q f e = columns-are q f (subst (Counted q) e (least-cut.work-counted q))
+
 -- The depth is what the last line of the worksheet gives, and the count is where it stands.
 pub depth-of-last-try : (q : Stretch)
     → workDepth q ≡ answerOf (getD (worksheetOf q .tries) (worksheetOf q .count - 1) blankTry) (worksheetOf q .count)
@@ -161,6 +176,15 @@ one-interval code = one-answer
 
 pub depth-fault-number-unique : (fault : DepthFault) (r s : ℕ) → r ≡ depthFaultNumber fault → s ≡ depthFaultNumber fault → r ≡ s
 depth-fault-number-unique fault = one-answer
+
+pub one-fastest-entry : (c : Column) (r s : ℕ) → r ≡ fastestEntry c → s ≡ fastestEntry c → r ≡ s
+one-fastest-entry c = one-answer
+
+pub allowances-unique : (q : Stretch) (r s : Allowances) → r ≡ allowancesOf q → s ≡ allowancesOf q → r ≡ s
+allowances-unique q = one-answer
+
+pub one-finding : (t : Try) (r s : Finding) → r ≡ findingOf t → s ≡ findingOf t → r ≡ s
+one-finding t = one-answer
 
 pub one-worksheet : (q : Stretch) (r s : Worksheet) → r ≡ worksheetOf q → s ≡ worksheetOf q → r ≡ s
 one-worksheet q = one-answer

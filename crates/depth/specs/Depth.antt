@@ -9,6 +9,7 @@ use Rattle.datum.specs.Datum.{dug}
 use Rattle.depth.specs.declared.Stretch.{Stretch}
 use Rattle.depth.specs.declared.Column.{Column}
 use Rattle.depth.specs.declared.Column.the-variants.{A, B, C}
+use Rattle.depth.specs.declared.Allowances.{Allowances}
 use Rattle.depth.specs.declared.DepthFigures.{DepthFigures}
 use Rattle.depth.specs.declared.DepthFault.{DepthFault}
 use Rattle.depth.specs.declared.DepthFault.the-variants.{NoSquatEntry, SiltOver, CutOver}
@@ -27,6 +28,10 @@ z1 q = up (q .draft * (4 + q .soil)) 100
 -- z2: the wave allowance, as it is given
 abbrev pub z2 : Stretch → ℕ
 z2 q = q .allowance
+
+-- the three of them
+unfoldable pub allowancesOf : Stretch → Allowances
+allowancesOf q = record { list = z0 q; keel = z1 q; wave = z2 q }
 
 -- z3: the squat of a column at the ship's speed
 unfoldable pub z3 : Stretch → Column → ℕ

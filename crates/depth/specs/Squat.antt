@@ -44,3 +44,9 @@ squatEntry column reading speed =
 -- the squat of a column at a speed
 abbrev pub squatOf : Lanes → Column → ℕ → ℕ
 squatOf lanes column speed = squatEntry (columnNumber column) (squatReading lanes) speed
+
+-- the greatest speed with an entry in a column
+abbrev pub fastestEntry : Column → ℕ
+fastestEntry A = 12
+fastestEntry B = 11
+fastestEntry C = 10

@@ -5,8 +5,8 @@ ghost use lib.ListN.{getD};
 ghost use Rattle.laws.specs.Rounding.{up};
 ghost use Rattle.datum.specs.Datum.{dug};
 ghost use Rattle.depth.specs.Interval.{intervalOf};
-ghost use Rattle.depth.specs.Squat.{columnNumber, squatReading, squatOf};
-ghost use Rattle.depth.specs.Depth.{columnOf, sailingWith, depthFaultNumber};
+ghost use Rattle.depth.specs.Squat.{columnNumber, squatReading, squatOf, fastestEntry};
+ghost use Rattle.depth.specs.Depth.{columnOf, sailingWith, allowancesOf, depthFaultNumber};
 ghost use Rattle.depth.specs.Worksheet.{reckoned, siltOver, columnTry, blankTry, findingOf, movesOn, answerOf, worksheetOf, workDepth};
 use datum::BelowLevel;
 use lanes::Lanes;
@@ -79,6 +79,13 @@ pub struct DepthFigures {
 pub enum Depth {
     Cut(DepthFigures),
     NoCut(DepthFault),
+}
+
+// What the ship's list and trim, the clearance under the keel and the waves add to the draft, in cm: z0, z1 and z2.
+pub struct Allowances {
+    pub list: u64,
+    pub keel: u64,
+    pub wave: u64,
 }
 
 // The mark of no entry in the squat table: greater than every entry.
@@ -156,6 +163,17 @@ fn squat_of(lanes: Lanes, column: Column, speed: u8) -> u16
     row[speed as usize - 2]
 }
 
+// The greatest speed with an entry in a column.
+pub fn fastest_entry(column: Column) -> u8
+    ensures { λ r. ⌜ r ≡ fastestEntry column ⌝ }
+{
+    match column {
+        Column::A => 12,
+        Column::B => 11,
+        Column::C => 10,
+    }
+}
+
 // How far a depth lies below the natural one, or 0 if it does not.
 fn dug_to(depth: ReckonedDepth, natural: BelowLevel) -> u64
     ensures { λ r. ⌜ r ≡ dug (natural .0) (depth .0) ⌝ }
@@ -191,6 +209,16 @@ fn z1(draft: u16, soil: u8) -> u64
     ensures { λ r. ⌜ (r ≡ up (draft * (4 + soil)) 100) × (r < 2 ^ 18) ⌝ }
 {
     (draft as u64 * (4 + soil as u64) + 99) / 100
+}
+
+// The allowances of a stretch.
+pub fn allowances_of(stretch: Stretch) -> Allowances
+    ensures { λ r. ⌜ r ≡ allowancesOf stretch ⌝ }
+{
+    let list = z0(stretch.length);
+    let keel = z1(stretch.draft, stretch.soil);
+    let wave = stretch.allowance as u64;
+    Allowances { list, keel, wave }
 }
 
 // The sailing depth at a squat.
@@ -261,7 +289,7 @@ fn blank_try() -> Try
 }
 
 // The limits of a column in the order of the worksheet, and then where its figure falls.
-fn finding_of(tried: Try) -> Finding
+pub fn finding_of(tried: Try) -> Finding
     ensures { λ r. ⌜ r ≡ findingOf tried ⌝ }
 {
     if NONE <= tried.squat {

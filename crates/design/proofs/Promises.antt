@@ -18,11 +18,13 @@ use Rattle.laws.proofs.Rows.{absent}
 use Rattle.laws.proofs.Unique.{one-answer}
 use Rattle.datum.specs.Datum.{levelOf}
 use Rattle.datum.specs.declared.Level.{Level}
+use Rattle.datum.specs.declared.BelowLevel.{BelowLevel}
 use Rattle.sheet.specs.Fields.{Bad}
 use Rattle.sheet.specs.Packing.{size, groupsOf, Bytes}
 use Rattle.sheet.specs.Refusals.{readRows}
 use Rattle.sheet.specs.Sheets.{readOf, writtenOf, placeOf}
 use Rattle.sheet.specs.declared.Sheet.{Sheet}
+use Rattle.sheet.specs.declared.LevelSource.{LevelSource}
 use Rattle.sheet.specs.declared.SheetRead.the-variants.{Good}
 use Rattle.sheet.specs.declared.ReadFault.the-variants.{BadField}
 use Rattle.sheet.specs.declared.SheetWritten.the-variants.{Done}
@@ -30,16 +32,20 @@ use Rattle.sheet.proofs.Promises.{written-and-read, each-one-writing}
 use Rattle.gauge.specs.Adding.{addition, additionNumber, tableAfter}
 use Rattle.gauge.specs.Designing.{designLevel, levelRows}
 use Rattle.lanes.specs.Lanes.{laneCount}
+use Rattle.lanes.specs.declared.Lanes.{Lanes}
 use Rattle.gauge.specs.declared.LevelRead.{LevelRead}
 use Rattle.gauge.specs.declared.LevelRead.the-variants.{Found, NoLevel}
 use Rattle.gauge.specs.declared.LevelFault.the-variants.{WrongTable}
 use Rattle.gauge.proofs.Promises.{refused-changes-nothing}
 use Rattle.depth.specs.Depth.{Meets}
 use Rattle.depth.specs.declared.DepthFault.{DepthFault}
-use Rattle.design.specs.Design.{levelFor, designAt, designOf}
+use Rattle.depth.specs.declared.Stretch.{Stretch as DepthStretch}
+use Rattle.width.specs.declared.Stretch.{Stretch as WidthStretch}
+use Rattle.speed.specs.declared.Section.{Section}
+use Rattle.design.specs.Design.{levelFor, depthStretch, widthStretch, speedSection, designAt, designOf}
 use Rattle.design.specs.Numbers.{codeOf, fieldOf, numberCount, numbersOf}
 use Rattle.design.specs.Refusals.{reasonNumber, reasonField, sheetIn, UnderThreeBeams, levelIn, offRecord, rows}
-use Rattle.design.specs.Answers.{stretchOf, FiguresAre}
+use Rattle.design.specs.Answers.{stretchOf, FiguresAre, WorkedFrom}
 use Rattle.design.specs.Harder.{cut, width, Hardening, hardenings, Sixteen, Seventeen, BothPass, EasierPasses, AnyTwo, NeverEasier, NeverEasierBut, _never-lessens_}
 use Rattle.design.specs.Starred.{writing, starredSheets, starredNumbers}
 use Rattle.design.specs.declared.Figures.{Figures}
@@ -50,6 +56,7 @@ use Rattle.design.specs.declared.Answer.the-variants.{Answered, Refused}
 use Rattle.design.proofs.answers.Numbers as the-numbers
 use Rattle.design.proofs.rows.Readings.{sheet-read, level-read, other-length}
 use Rattle.design.proofs.answers.Figures.{figures-only}
+use Rattle.design.proofs.answers.Worked.{answered-worked}
 use Rattle.design.proofs.Fitting.{design-fits}
 use Rattle.design.proofs.rows.Exactly.{design-exactly, field-exactly, figures-exactly, no-depth-only as no-depth-said}
 use Rattle.design.proofs.rows.Exchanged.{exchanged}
@@ -96,6 +103,11 @@ module _ (bytes table : List ℕ) (small : Bytes bytes) where
 -- A sheet has one row of figures at a level.
 pub one-row-of-figures : (s : Sheet) (level : Level) (f g : Figures) → FiguresAre s level f → FiguresAre s level g → f ≡ g
 one-row-of-figures = figures-only
+
+-- The figures of an answer are those of the rooms' calls on what `working` picks out of the sheet, at any level that was read.
+pub worked-from : (bytes : List ℕ) (read : LevelRead) (s : Sheet) (f : Figures) → readOf bytes ≡ Good s → designAt bytes read ≡ Answered f
+    → WorkedFrom s read f
+worked-from = answered-worked
 
 -- A sheet written and read again is the same sheet.
 pub written-and-read-again : (s : Sheet) (place : List ℕ) → writtenOf s place ≡ Done → readOf (take size (placeOf s place)) ≡ Good s
@@ -218,6 +230,21 @@ design-unique bytes table = one-answer
 
 pub design-at-unique : (bytes : List ℕ) (read : LevelRead) (r s : Answer) → r ≡ designAt bytes read → s ≡ designAt bytes read → r ≡ s
 design-at-unique bytes read = one-answer
+
+pub level-for-unique : (source : LevelSource) (read r s : LevelRead) → r ≡ levelFor source read → s ≡ levelFor source read → r ≡ s
+level-for-unique source read = one-answer
+
+pub depth-stretch-unique : (sheet : Sheet) (level : Level) (lanes : Lanes) (r s : DepthStretch)
+    → r ≡ depthStretch sheet level lanes → s ≡ depthStretch sheet level lanes → r ≡ s
+depth-stretch-unique sheet level lanes = one-answer
+
+pub width-stretch-unique : (sheet : Sheet) (lanes : Lanes) (sailing : BelowLevel) (r s : WidthStretch)
+    → r ≡ widthStretch sheet lanes sailing → s ≡ widthStretch sheet lanes sailing → r ≡ s
+width-stretch-unique sheet lanes sailing = one-answer
+
+pub section-unique : (sheet : Sheet) (level : Level) (width : ℕ) (cut : BelowLevel) (r s : Section)
+    → r ≡ speedSection sheet level width cut → s ≡ speedSection sheet level width cut → r ≡ s
+section-unique sheet level width cut = one-answer
 
 pub code-unique : (design : Answer) (r s : ℕ) → r ≡ codeOf design → s ≡ codeOf design → r ≡ s
 code-unique design = one-answer

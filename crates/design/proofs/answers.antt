@@ -3,3 +3,4 @@ pub mod Numbers
 pub mod Held
 pub mod Figures
 pub mod Ways
+pub mod Worked

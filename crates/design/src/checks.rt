@@ -1,7 +1,7 @@
 // The checks of a sheet in their order: the ship, the level, the bend, the width's entries, the depth, the speed (definition, section 8).
 ghost use mathlib.Core.Path.{_≡_};
 ghost use Prim.Native.Nat.{_<_, _^_};
-ghost use Rattle.design.specs.Design.{levelFor, pastDepth, pastEntries, pastBend, atLevel, ofSheet};
+ghost use Rattle.design.specs.Design.{pastDepth, pastEntries, pastBend, atLevel, ofSheet};
 use crate::Answer;
 use crate::Reason;
 use crate::working;
@@ -10,23 +10,12 @@ use depth::Depth;
 use depth::DepthFigures;
 use gauge::LevelRead;
 use lanes::Lanes;
-use sheet::LevelSource;
 use sheet::Sheet;
 use speed::SpeedCheck;
 use width::Bend;
 use width::Entries;
 use width::EntriesFound;
 use width::WidthFault;
-
-// The level of a sheet: its own, or the one read off the record.
-fn level_for(source: LevelSource, read: LevelRead) -> LevelRead
-    ensures { λ r. ⌜ r ≡ levelFor source read ⌝ }
-{
-    match source {
-        LevelSource::FromRecord => read,
-        LevelSource::Given(level) => LevelRead::Found(level),
-    }
-}
 
 // A length under three beams is no ship's: the two may have changed places. Then the level.
 pub fn of_sheet(sheet: Sheet, read: LevelRead) -> Answer
@@ -36,7 +25,7 @@ pub fn of_sheet(sheet: Sheet, read: LevelRead) -> Answer
         Answer::Refused(Reason::NoShip)
     } else {
         let source = sheet.level;
-        let level = level_for(source, read);
+        let level = working::level_for(source, read);
         match level {
             LevelRead::Found(found) => at_level(sheet, found),
             LevelRead::NoLevel(fault) => Answer::Refused(Reason::NoLevel(fault)),
@@ -91,7 +80,8 @@ fn past_depth(
     requires { ⌜ (widening < 2 ^ 31) × (width < 2 ^ 31) ⌝ }
     ensures { λ r. ⌜ r ≡ pastDepth sheet level lanes widening width depth ⌝ }
 {
-    let section = working::section_of(sheet, level, width, depth);
+    let cut = depth.cut;
+    let section = working::section_of(sheet, level, width, cut);
     let check = speed::check_speed(section, sheet.speed);
     match check {
         SpeedCheck::Allowed => Answer::Answered(working::figures_of(

@@ -18,7 +18,7 @@ use width::WidthFault;
 
 mod checks;
 mod numbering;
-mod working;
+pub mod working;
 
 // Why a sheet is turned away: the refusal of the room that turns it away, or the design's own.
 pub enum Reason {

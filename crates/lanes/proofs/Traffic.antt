@@ -7,7 +7,7 @@ use borrow.Author.Tests.{lt-ltb, le-ltb, ltb-true, ne-eqb}
 use lib.Dec.{ltb}
 use Rattle.laws.proofs.Never.{never}
 use Rattle.laws.specs.Choice.{if_then_else_}
-use Rattle.lanes.specs.Lanes.{byTraffic, lanesOf}
+use Rattle.lanes.specs.Lanes.{byTraffic, lanesOf, sidesOf}
 use Rattle.lanes.specs.declared.Lanes.the-variants.{One, Two}
 
 module _ (channel ships knots : ℕ) where
@@ -41,3 +41,7 @@ module _ (channel ships knots : ℕ) where
   pub named-two : lanesOf 2 channel ships knots ≡ Two
   unfolding lanesOf
   named-two = refl
+
+  pub one-by-sides : (lanesOf 0 channel ships knots ≡ One) ↔ (sidesOf channel ships knots .traffic < sidesOf channel ships knots .limit)
+  unfolding lanesOf sidesOf
+  one-by-sides = one-exactly

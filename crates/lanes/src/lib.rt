@@ -1,10 +1,16 @@
 // Lanes: one or two, as the sheet names them or by the traffic (definition, section 3).
 ghost use mathlib.Core.Path.{_≡_};
-ghost use Rattle.lanes.specs.Lanes.{laneCount, lanesOf, byTraffic};
+ghost use Rattle.lanes.specs.Lanes.{laneCount, lanesOf, byTraffic, sidesOf};
 
 pub enum Lanes {
     One,
     Two,
+}
+
+// The two sides of the rule by the traffic.
+pub struct Sides {
+    pub traffic: u64,
+    pub limit: u64,
 }
 
 // How many lanes: one or two.
@@ -40,5 +46,15 @@ fn by_traffic(channel: u32, ships: u16, knots: u8) -> Lanes
         Lanes::One
     } else {
         Lanes::Two
+    }
+}
+
+// The channel's length times its ships, and what that must stay under for one lane.
+pub fn sides_of(channel: u32, ships: u16, knots: u8) -> Sides
+    ensures { λ r. ⌜ r ≡ sidesOf channel ships knots ⌝ }
+{
+    Sides {
+        traffic: (channel as u64) * (ships as u64),
+        limit: TRAFFIC * (knots as u64),
     }
 }

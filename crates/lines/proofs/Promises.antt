@@ -20,12 +20,13 @@ use Rattle.design.specs.Numbers.{numberCount, numbersOf}
 use Rattle.design.specs.Starred.{writing}
 use Rattle.design.proofs.Promises.{all-numbers, numbers-fit}
 use Rattle.lines.specs.Starred.{numbersOfS, lineOfS}
-use Rattle.lines.specs.Lines.{levelsLine, sheetLine, routeLine, lineBytes, countBytes, placeWithin, bufferWithin, placeAfter, bufferAfter, Put}
+use Rattle.lines.specs.Lines.{levelsLine, sheetLine, routeLine, lineBytes, countBytes, numberBytes, placeWithin, bufferWithin, placeAfter, bufferAfter, Put}
 use Rattle.lines.proofs.decimals.Meaning.{digits-value, digits-decimal, decimal-only}
 use Rattle.lines.proofs.decimals.Texts.{count-text-one, number-text-one, minus-negative}
 use Rattle.lines.proofs.wholes.OneLine.{sheet-line-one, levels-line-one, route-line-one}
 use Rattle.lines.proofs.wholes.Sizes.{count-at-most-20, sheet-line-size, levels-line-size, route-line-size}
 use Rattle.lines.proofs.putting.Fitting.{same-place-exactly, buffer-unfit, before-kept, line-stands, line-behind, none-lost, after-kept, length-kept, place-within, put-within}
+use Rattle.lines.proofs.putting.Signs.{number-at-most}
 use Rattle.lines.proofs.wholes.Sample.{first-line, numbers-s, line-s, last-line}
 
 -- The digits of a number mean it.
@@ -122,6 +123,11 @@ pub count-put : (count at : ℕ) (buffer later : List ℕ) (end : ℕ) → at + 
     → later ≡ bufferWithin countBytes (countText count) at buffer → Put buffer at (countText count) later end
 count-put count at buffer later end h e f = put-within countBytes (countText count) at buffer h (e, f)
 
+-- A signed number likewise.
+pub number-put : (number : ℤ) (at : ℕ) (buffer later : List ℕ) (end : ℕ) → at + numberBytes ≤ length buffer → end ≡ placeWithin numberBytes (numberText number) at buffer
+    → later ≡ bufferWithin numberBytes (numberText number) at buffer → Put buffer at (numberText number) later end
+number-put number at buffer later end h e f = put-within numberBytes (numberText number) at buffer h (e, f)
+
 -- Bytes likewise.
 pub bytes-put : (text : List ℕ) (at : ℕ) (buffer later : List ℕ) (end : ℕ) → at + length text ≤ length buffer → end ≡ placeWithin (length text) text at buffer
     → later ≡ bufferWithin (length text) text at buffer → Put buffer at text later end
@@ -131,7 +137,11 @@ bytes-put text at buffer later end h e f = put-within (length text) text at buff
 pub count-fits : (count : ℕ) → count < 2 ^ 64 → length (countText count) ≤ countBytes
 count-fits = count-at-most-20
 
--- One answered place and one later content of the buffer, for each of the five calls.
+-- A number of 32 bits has at most 10, and a sign.
+pub number-fits : (number : ℤ) → SFits w32 number → length (numberText number) ≤ 11
+number-fits = number-at-most
+
+-- One answered place and one later content of the buffer, for each of the six calls.
 pub decimal-place-unique : (count at : ℕ) (buffer : List ℕ) (r s : ℕ)
     → r ≡ placeWithin countBytes (countText count) at buffer → s ≡ placeWithin countBytes (countText count) at buffer → r ≡ s
 decimal-place-unique count at buffer = one-answer
@@ -139,6 +149,14 @@ decimal-place-unique count at buffer = one-answer
 pub decimal-buffer-unique : (count at : ℕ) (buffer now later : List ℕ)
     → now ≡ bufferWithin countBytes (countText count) at buffer → later ≡ bufferWithin countBytes (countText count) at buffer → now ≡ later
 decimal-buffer-unique count at buffer = one-answer
+
+pub signed-place-unique : (number : ℤ) (at : ℕ) (buffer : List ℕ) (r s : ℕ)
+    → r ≡ placeWithin numberBytes (numberText number) at buffer → s ≡ placeWithin numberBytes (numberText number) at buffer → r ≡ s
+signed-place-unique number at buffer = one-answer
+
+pub signed-buffer-unique : (number : ℤ) (at : ℕ) (buffer now later : List ℕ)
+    → now ≡ bufferWithin numberBytes (numberText number) at buffer → later ≡ bufferWithin numberBytes (numberText number) at buffer → now ≡ later
+signed-buffer-unique number at buffer = one-answer
 
 pub bytes-place-unique : (text : List ℕ) (at : ℕ) (buffer : List ℕ) (r s : ℕ)
     → r ≡ placeWithin (length text) text at buffer → s ≡ placeWithin (length text) text at buffer → r ≡ s

@@ -69,6 +69,10 @@ bufferAfter = bufferWithin lineBytes
 abbrev pub countBytes : ℕ
 countBytes = 20
 
+-- the bytes that a signed number is given: those of a count, and one for its sign
+abbrev pub numberBytes : ℕ
+numberBytes = 21
+
 -- a text was put at a place of a buffer, which is now as later; end is the place after it
 pub record Put (buffer : List ℕ) (at : ℕ) (text : List ℕ) (later : List ℕ) (end : ℕ) : Type 0 where
   pub after : end ≡ at + length text

@@ -7,7 +7,7 @@ ghost use lib.ListN.{length, take, drop};
 ghost use Rattle.laws.specs.Choice.{_≤ᵇ_};
 ghost use Rattle.design.specs.Numbers.{numberCount};
 ghost use Rattle.lines.specs.Decimals.{digits, countText, numberText};
-ghost use Rattle.lines.specs.Lines.{lineBytes, spaced, lineText, sheetLine, levelsLine, routeLine, countBytes, placeWithin, bufferWithin, placeAfter, bufferAfter, Put};
+ghost use Rattle.lines.specs.Lines.{lineBytes, spaced, lineText, sheetLine, levelsLine, routeLine, countBytes, numberBytes, placeWithin, bufferWithin, placeAfter, bufferAfter, Put};
 use design::COUNT;
 
 // The counts of a line that begins with a letter.
@@ -18,6 +18,9 @@ pub const LINE_BYTES: usize = 12 * COUNT + 36;
 
 // The bytes that a count is given.
 const COUNT_BYTES: usize = 20;
+
+// The bytes that a signed number is given: those of a count, and one for its sign.
+const NUMBER_BYTES: usize = 21;
 
 const ZERO: u64 = 48;
 
@@ -75,6 +78,16 @@ pub fn put_decimal(count: u64, buffer: &mut [u8], at: usize) -> usize
         return at;
     }
     put_count(count, buffer, at)
+}
+
+// Puts a signed number likewise; the same place, and nothing put, where 21 bytes do not fit.
+pub fn put_signed(number: i32, buffer: &mut [u8], at: usize) -> usize
+    ensures { λ r. ⌜ (r ≡ placeWithin numberBytes (numberText number) at (now (buffer .entry))) × (now (buffer .exit) ≡ bufferWithin numberBytes (numberText number) at (now (buffer .entry))) ⌝ }
+{
+    if !fits(buffer.len(), at, NUMBER_BYTES) {
+        return at;
+    }
+    put_number(number, buffer, at)
 }
 
 // Puts bytes at a place and answers the place after them; the same place, and nothing put, where they do not fit.

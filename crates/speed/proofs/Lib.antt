@@ -1,4 +1,5 @@
 mod Meaning
 mod Ways
 pub mod Refusals
+mod Showing
 pub mod Promises

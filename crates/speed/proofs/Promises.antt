@@ -1,5 +1,5 @@
--- What the critical speed promises (sections 8 and 13), each cited from its proof. `shallowSpeed`, `fullSpeed`, `criticalSpeed`, `checkOf` and
--- `speedFaultNumber` are what the calls of like names ensure.
+-- What the critical speed promises (sections 8 and 13), each cited from its proof. `shallowSpeed`, `fullSpeed`, `criticalSpeed`, `checkOf`,
+-- `partsShown` (of `parts_of`) and `speedFaultNumber` are what the calls of like names ensure.
 use mathlib.Core.Path.{_≡_, sym}
 use mathlib.Core.Logic.{_↔_, _≢_}
 use Prim.Native.Nat.{ℕ, _+_, _*_, _/_, _≤_, _<_}
@@ -9,12 +9,14 @@ use Rattle.laws.proofs.Unique.{one-answer}
 use Rattle.speed.specs.Table.{shallowPoint, fullPoint}
 use Rattle.speed.specs.Lines.{partsOf, times, straight}
 use Rattle.speed.specs.Critical.{shallowSpeed, fullSpeed, criticalSpeed, whole, checkOf}
+use Rattle.speed.specs.Shown.{partsShown}
 use Rattle.speed.specs.Orders.{AnyOrder}
 use Rattle.speed.specs.Weights.{weight, shallowWeight, fullWeight, Lacking, sum}
 use Rattle.speed.specs.Refusals.{speedFaultNumber, checkNumber, speedRows}
 use Rattle.speed.specs.declared.Section.{Section}
 use Rattle.speed.specs.declared.Speed.{Speed}
 use Rattle.speed.specs.declared.Speed.the-variants.{Parts, Missing}
+use Rattle.speed.specs.declared.SpeedParts.{SpeedParts}
 use Rattle.speed.specs.declared.SpeedFault.{SpeedFault}
 use Rattle.speed.specs.declared.SpeedCheck.{SpeedCheck}
 use Rattle.speed.specs.declared.SpeedCheck.the-variants.{Allowed}
@@ -24,6 +26,7 @@ use Rattle.speed.proofs.lines.Orders.{any-order}
 use Rattle.speed.proofs.lines.Sums.{weights-add-up}
 use Rattle.speed.proofs.Meaning as the-speed
 use Rattle.speed.proofs.Refusals.{check-exactly, allowed-exactly}
+use Rattle.speed.proofs.Showing.{allowed-to-fastest}
 use Rattle.speed.proofs.Ways.{unasked}
 
 -- The table
@@ -115,6 +118,11 @@ pub allowed-to-nine-tenths : (q : Section) (knots parts : ℕ) → q .slope ≢ 
     → (checkOf q knots ≡ Allowed) ↔ (100 * (knots * 1852) * whole (q .cut .0) ≤ 9 * parts * 3600)
 allowed-to-nine-tenths = allowed-exactly
 
+-- A ship is allowed exactly up to the fastest speed that is shown, in hundredths of a knot.
+pub allowed-to-the-fastest : (q : Section) (knots : ℕ) → q .slope ≢ 0 → 0 < q .cut .0
+    → (checkOf q knots ≡ Allowed) ↔ ((hundredths : ℕ) × (partsShown q .fastest ≡ Parts hundredths) × (100 * knots ≤ hundredths))
+allowed-to-the-fastest = allowed-to-fastest
+
 -- One answer of each call.
 pub shallow-speed-unique : (depth : ℕ) (r t : Speed) → r ≡ shallowSpeed depth → t ≡ shallowSpeed depth → r ≡ t
 shallow-speed-unique depth = one-answer
@@ -127,6 +135,9 @@ critical-speed-unique q = one-answer
 
 pub check-unique : (q : Section) (knots : ℕ) (r t : SpeedCheck) → r ≡ checkOf q knots → t ≡ checkOf q knots → r ≡ t
 check-unique q knots = one-answer
+
+pub parts-unique : (q : Section) (r t : SpeedParts) → r ≡ partsShown q → t ≡ partsShown q → r ≡ t
+parts-unique q = one-answer
 
 pub speed-fault-number-unique : (fault : SpeedFault) (r t : ℕ) → r ≡ speedFaultNumber fault → t ≡ speedFaultNumber fault → r ≡ t
 speed-fault-number-unique fault = one-answer

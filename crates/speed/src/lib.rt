@@ -4,6 +4,7 @@ ghost use Prim.Native.Nat.{_-_, _^_, _≤_, _<_};
 ghost use Rattle.datum.specs.Datum.{dug};
 ghost use Rattle.speed.specs.Lines.{partsOf};
 ghost use Rattle.speed.specs.Critical.{shallowSpeed, fullSpeed, criticalSpeed, against, checkOf};
+ghost use Rattle.speed.specs.Shown.{over, fastestSpeed, partsShown};
 ghost use Rattle.speed.specs.Refusals.{speedFaultNumber};
 use datum::BelowLevel;
 
@@ -35,6 +36,16 @@ pub enum SpeedFault {
 pub enum SpeedCheck {
     Allowed,
     NotAllowed(SpeedFault),
+}
+
+// What a critical speed is joined from, as a sheet shows it: h in cm, V', V'' and the joined speed in whole mm a second, and the fastest
+// that a ship may go, nine tenths of the joined speed, in hundredths of a knot; all rounded down.
+pub struct SpeedParts {
+    pub dug: u16,
+    pub shallow: Speed,
+    pub full: Speed,
+    pub critical: Speed,
+    pub fastest: Speed,
 }
 
 // The number that turns a sheet away for a fault.
@@ -114,5 +125,53 @@ pub fn check_speed(section: Section, knots: u8) -> SpeedCheck
     match speed {
         Speed::Parts(parts) => against_of(parts, cut.0, knots),
         Speed::Missing => SpeedCheck::NotAllowed(SpeedFault::PointMissing),
+    }
+}
+
+// A speed over a divisor, rounded down; a divisor of 0 gives none.
+fn over_of(divisor: u64, speed: Speed) -> Speed
+    ensures { λ r. ⌜ r ≡ over divisor speed ⌝ }
+{
+    if divisor == 0 {
+        return Speed::Missing;
+    }
+    match speed {
+        Speed::Parts(parts) => Speed::Parts(parts / divisor),
+        Speed::Missing => Speed::Missing,
+    }
+}
+
+// Nine tenths of a joined speed in hundredths of a knot of 1,852 m in 3,600 s, rounded down.
+fn fastest_of(cut: u16, speed: Speed) -> Speed
+    requires { ⌜ partsOf speed < 2 ^ 46 ⌝ }
+    ensures { λ r. ⌜ r ≡ fastestSpeed cut speed ⌝ }
+{
+    match speed {
+        Speed::Parts(parts) => over_of(
+            1852 * (2000000 * cut as u64),
+            Speed::Parts(9 * 3600 * parts),
+        ),
+        Speed::Missing => Speed::Missing,
+    }
+}
+
+// The parts of a section's critical speed.
+pub fn parts_of(section: Section) -> SpeedParts
+    ensures { λ r. ⌜ r ≡ partsShown section ⌝ }
+{
+    let natural = section.natural;
+    let cut = section.cut;
+    let dug = dug_of(natural, cut);
+    let shallow = shallow_speed(cut);
+    let full = over_of(20000, full_speed(section.width, section.slope, cut));
+    let joined = critical_speed(section);
+    let critical = over_of(20000 * cut.0 as u64, joined);
+    let fastest = fastest_of(cut.0, joined);
+    SpeedParts {
+        dug,
+        shallow,
+        full,
+        critical,
+        fastest,
     }
 }

@@ -1,10 +1,10 @@
 -- What typed texts promise, in the definition's words (section 14). Each proof stands where it is cited.
 use mathlib.Core.Path.{_≡_, sym, _∙_}
 use mathlib.Core.Bool.{true, false}
-use mathlib.Core.List.{List, [], _∷_, flatten, List·Memᴰ}
+use mathlib.Core.List.{List, [], _∷_, _++_, map, flatten, List·Memᴰ}
 use mathlib.Core.Logic.{_↔_, _⊎_, _≢_}
 use Prim.Native.Nat.{ℕ, _+_, _-_, _*_, _^_, _≤_, _<_}
-use lib.ListN.{length, getD}
+use lib.ListN.{length, getD, drop}
 use Rattle.laws.specs.Choice.{if_then_else_}
 use Rattle.laws.specs.Each.{Each}
 use Rattle.laws.specs.Rows.{Exactly}
@@ -21,7 +21,8 @@ use Rattle.typed.specs.Rows.{bytesOf, count, levelRow}
 use Rattle.typed.specs.Lines.{lineText}
 use Rattle.typed.specs.Reading.{named}
 use Rattle.texts.specs.Cutting.{linesOf, bare, beginsSheet}
-use Rattle.texts.specs.Messages.{messageBytes, quotedText, stoodText, messageText}
+use Rattle.texts.specs.Messages.{messageBytes, shown, quotedText, stoodText, messageText}
+use Rattle.texts.specs.Names.{nameFrom, bytesIn, nameAfter}
 use Rattle.texts.specs.Shown.{rowFigure, shownBytes, shownText, formBytes, formText, sheetBytes, sheetText}
 use Rattle.texts.specs.Steps.{faultNumber, step, stepOf}
 use Rattle.texts.specs.Texts.{beginning, happenedIn, nextOf, allOf}
@@ -31,11 +32,13 @@ use Rattle.texts.specs.declared.Event.the-variants.{Nothing}
 use Rattle.texts.specs.declared.Found.{Found}
 use Rattle.texts.specs.declared.LineFault.{LineFault}
 use Rattle.texts.specs.declared.Place.{Place}
+use Rattle.texts.specs.declared.Span.{Span}
 use Rattle.texts.specs.declared.Stage.the-variants.{Between, InRow, Skipping}
 use Rattle.texts.proofs.meaning.Again.{one-typed, one-again, one-refused, typed-again, shown-exactly}
 use Rattle.texts.proofs.meaning.Complete.{row-before-field, row-last, row-record, row-level, complete-text}
 use Rattle.texts.proofs.meaning.Faults.{no-bytes, number-within, number-one, all-places, stood-there}
 use Rattle.texts.proofs.meaning.Form.{form-refused}
+use Rattle.texts.proofs.meaning.Names.{name-bytes, name-of-title, name-of-none}
 use Rattle.texts.proofs.meaning.Numbers.{number-exactly, number-1-exactly, skipped, refused-once}
 use Rattle.texts.proofs.meaning.Ones.{same-sheets, same-faultless, same-bytes, figures-of-lines, figures-of-bytes, sheets-of-bytes}
 use Rattle.texts.proofs.meaning.Places.{typed-and-read, text-sizes, named-line}
@@ -135,6 +138,18 @@ pub sheets-of-their-bytes : (text other : List ℕ) → Faultless text → Fault
     → sheetsOf (allOf text) ≡ sheetsOf (allOf other)
 sheets-of-their-bytes = sheets-of-bytes
 
+-- The name of a sheet, as it is typed: its part of the text has the bytes behind `sheet` and a space, on the first line from a place on that
+-- begins a sheet; none where there is no such line.
+pub name-is-typed : (text : List ℕ) (from : ℕ) → bytesIn text (nameAfter text from) ≡ nameFrom (linesOf (drop from text))
+name-is-typed = name-bytes
+
+-- The name of a line `sheet`, a space and a name is that name; `sheet` alone has none.
+pub name-of-titled : (name : List ℕ) (lines : List (List ℕ)) → OneLine (bytesOf "sheet " ++ name) → nameFrom ((bytesOf "sheet " ++ name) ∷ lines) ≡ name
+name-of-titled = name-of-title
+
+pub no-name-of-untitled : (lines : List (List ℕ)) → nameFrom (bytesOf "sheet" ∷ lines) ≡ []
+no-name-of-untitled = name-of-none
+
 -- Each kept line of an accepted text begins a sheet or is that of a row's figure.
 pub every-line-means : (text : List ℕ) → Faultless text → (line : List ℕ) → List·Memᴰ line (kept text) → LineKind line
 every-line-means = each-line
@@ -223,6 +238,12 @@ begin-unique = one-answer
 pub fault-number-unique : (fault : LineFault) (r s : ℕ) → r ≡ faultNumber fault → s ≡ faultNumber fault → r ≡ s
 fault-number-unique fault = one-answer
 
+pub name-unique : (text : List ℕ) (from : ℕ) (r s : Span) → r ≡ nameAfter text from → s ≡ nameAfter text from → r ≡ s
+name-unique text from = one-answer
+
+pub row-figure-unique : (figures : List ℕ) (i r s : ℕ) → r ≡ rowFigure figures i → s ≡ rowFigure figures i → r ≡ s
+row-figure-unique figures i = one-answer
+
 pub message-place-unique : (text : List ℕ) (fault : LineFault) (row : ℕ) (place : Place) (at : ℕ) (buffer : List ℕ) (r s : ℕ)
     → r ≡ placeWithin messageBytes (messageText text fault row place) at buffer
     → s ≡ placeWithin messageBytes (messageText text fault row place) at buffer
@@ -234,6 +255,15 @@ pub message-buffer-unique : (text : List ℕ) (fault : LineFault) (row : ℕ) (p
     → later ≡ bufferWithin messageBytes (messageText text fault row place) at buffer
     → now ≡ later
 message-buffer-unique text fault row place at buffer = one-answer
+
+pub visible-place-unique : (bytes : List ℕ) (at : ℕ) (buffer : List ℕ) (r s : ℕ)
+    → r ≡ placeWithin (length bytes) (map shown bytes) at buffer → s ≡ placeWithin (length bytes) (map shown bytes) at buffer → r ≡ s
+visible-place-unique bytes at buffer = one-answer
+
+pub visible-buffer-unique : (bytes : List ℕ) (at : ℕ) (buffer now later : List ℕ)
+    → now ≡ bufferWithin (length bytes) (map shown bytes) at buffer → later ≡ bufferWithin (length bytes) (map shown bytes) at buffer
+    → now ≡ later
+visible-buffer-unique bytes at buffer = one-answer
 
 pub shown-place-unique : (index : ℕ) (bytes : List ℕ) (at : ℕ) (buffer : List ℕ) (r s : ℕ)
     → r ≡ placeWithin shownBytes (shownText index bytes) at buffer → s ≡ placeWithin shownBytes (shownText index bytes) at buffer → r ≡ s

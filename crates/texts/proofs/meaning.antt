@@ -1,6 +1,7 @@
 -- What typed texts mean.
 pub mod Cuts
 pub mod Stepping
+pub mod Names
 pub mod Keeping
 pub mod Filling
 pub mod Sound

@@ -1,3 +1,2 @@
--- One line of a text, and the first that brings something.
+-- One line of a text.
 pub mod Turning
-pub mod Finding

@@ -29,6 +29,13 @@ pub fn line_end(text: &[u8], from: usize) -> usize
     at
 }
 
+// The lesser of two places.
+pub fn least(a: usize, b: usize) -> usize
+    ensures { λ r. ⌜ r ≡ min a b ⌝ }
+{
+    if a < b { a } else { b }
+}
+
 // The place after a line's newline, or the end of the text.
 pub fn line_after(end: usize, bytes: usize) -> usize
     requires { ⌜ end ≤ bytes ⌝ }
@@ -42,7 +49,7 @@ pub fn line_after(end: usize, bytes: usize) -> usize
 
 // How long a line is without a carriage return at its end.
 pub fn bare_length(line: &[u8]) -> usize
-    ensures { λ r. ⌜ (r ≡ length (bare (now (line .entry)))) × (take r (now (line .entry)) ≡ bare (now (line .entry))) ⌝ }
+    ensures { λ r. ⌜ (r ≡ length (bare (now (line .entry)))) × (take r (now (line .entry)) ≡ bare (now (line .entry))) × (r ≤ length (now (line .entry))) ⌝ }
 {
     let length = line.len();
     if length == 0 {

@@ -1,12 +1,13 @@
 // The message of a fault: the line's number, the reason, what stood there and what was expected (definition, section 14.4).
 ghost use mathlib.Core.Path.{_≡_};
-ghost use Prim.Native.Nat.{_+_, _≤_, min};
+ghost use Prim.Native.Nat.{_+_, _≤_};
 ghost use lib.ListN.{length, take};
 ghost use mathlib.Core.List.{map};
 ghost use Rattle.lines.specs.Lines.{Put};
 ghost use Rattle.texts.specs.Messages.{reasonText, shown, quotedText, stoodText, expectedFor, messageText};
 use crate::LineFault;
 use crate::Place;
+use crate::cutting;
 use crate::putting;
 
 // The bytes that a message is given, and how many of a line are shown.
@@ -51,14 +52,8 @@ fn shown_byte(byte: u8) -> u8
     byte
 }
 
-fn least(a: usize, b: usize) -> usize
-    ensures { λ r. ⌜ r ≡ min a b ⌝ }
-{
-    if a < b { a } else { b }
-}
-
 // The first bytes of a line, as they are shown.
-fn put_seen(line: &[u8], count: usize, buffer: &mut [u8], at: usize) -> usize
+pub fn put_seen(line: &[u8], count: usize, buffer: &mut [u8], at: usize) -> usize
     requires { ⌜ (count ≤ length (now line)) × (at + count ≤ length (now buffer)) ⌝ }
     ensures { λ r. ⌜ Put (now (buffer .entry)) at (map shown (take count (now (line .entry)))) (now (buffer .exit)) r × (r ≤ at + count) ⌝ }
 {
@@ -76,7 +71,7 @@ fn put_quoted(line: &[u8], buffer: &mut [u8], at: usize) -> usize
     ensures { λ r. ⌜ Put (now (buffer .entry)) at (quotedText (now (line .entry))) (now (buffer .exit)) r × (r ≤ at + 64) ⌝ }
 {
     let first = putting::put(b"\"", buffer, at);
-    let last = put_seen(line, least(SEEN, line.len()), buffer, first);
+    let last = put_seen(line, cutting::least(SEEN, line.len()), buffer, first);
     let end = putting::put(b"\"", buffer, last);
     if line.len() <= SEEN {
         return end;
@@ -92,8 +87,8 @@ fn put_stood(text: &[u8], place: Place, buffer: &mut [u8], at: usize) -> usize
     if place.ended {
         return putting::put(b"the text ends", buffer, at);
     }
-    let end = least(place.end, text.len());
-    let start = least(place.start, end);
+    let end = cutting::least(place.end, text.len());
+    let start = cutting::least(place.start, end);
     put_quoted(&text[start..end], buffer, at)
 }
 

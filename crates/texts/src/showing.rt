@@ -1,37 +1,15 @@
 // Bytes shown as text, the bytes of figures, and the empty form (definition, sections 14.5 and 14.6).
-ghost use mathlib.Core.Path.{_≡_};
 ghost use Prim.Native.Nat.{_+_, _≤_, _<_};
 ghost use lib.ListN.{length};
 ghost use Rattle.lines.specs.Lines.{Put};
-ghost use Rattle.texts.specs.Shown.{rowFigure, rowLine, rowsText, refusedText, readText, shownText, formRow, formText, sheetText};
+ghost use Rattle.texts.specs.Shown.{rowLine, rowsText, refusedText, readText, shownText, formRow, formText, sheetText};
 use crate::SHEET_BYTES;
 use crate::putting;
 use sheet::ReadFault;
 use sheet::SheetRead;
 
-// The bytes that a shown sheet is given, the form, and the bytes of a sheet.
-pub const ROOM: usize = 4096;
-
+// The bytes that the form is given.
 pub const FORM_ROOM: usize = 20000;
-
-pub const SHEET: usize = 28;
-
-// The figure of the row after the first i. The level's is 0 off the record, or one more than its field 28.
-fn row_figure(figures: [u32; sheet::COUNT], i: usize) -> u32
-    requires { ⌜ i < 28 ⌝ }
-    ensures { λ r. ⌜ r ≡ rowFigure figures i ⌝ }
-{
-    if i < typed::LEVEL {
-        return figures[i];
-    }
-    if i == typed::LEVEL {
-        if figures[26] == 0 {
-            return 0;
-        }
-        return figures[27] % 65536 + 1;
-    }
-    figures[28]
-}
 
 // The line of a row, with its newline.
 fn put_row(i: usize, figure: u32, buffer: &mut [u8], at: usize) -> usize
@@ -50,7 +28,7 @@ fn put_rows(figures: [u32; sheet::COUNT], buffer: &mut [u8], at: usize) -> usize
     let mut end = at;
     let mut i: usize = 0;
     while i < typed::COUNT {
-        end = put_row(i, row_figure(figures, i), buffer, end);
+        end = put_row(i, crate::row_figure(figures, i), buffer, end);
         i += 1;
     }
     end

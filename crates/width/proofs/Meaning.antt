@@ -1,4 +1,4 @@
--- What a width and a widening are: each the least whole number that reaches the definition's fraction.
+-- What a width, a widening and a least radius are: each the least whole number that reaches the definition's fraction.
 use mathlib.Core.Path.{_≡_, refl, sym, ap, subst, _∙_}
 use mathlib.Core.Bool.{Bool, true, false}
 use mathlib.Core.Logic.{_↔_}
@@ -14,11 +14,13 @@ use Rattle.laws.proofs.Quotients.{up-least}
 use Rattle.lanes.specs.Lanes.{laneCount}
 use Rattle.lanes.specs.declared.Lanes.{Lanes}
 use Rattle.width.specs.Width.{itemsOf, tenthsOf, widthOf}
-use Rattle.width.specs.Bends.{leastLengths, wideningOf, bendOf}
+use Rattle.width.specs.Bends.{leastLengths, leastRadius, wideningOf, bendOf}
+use Rattle.width.specs.Refusals.{bendNumber}
 use Rattle.width.specs.declared.Stretch.{Stretch}
 use Rattle.width.specs.declared.Entries.{Entries}
-use Rattle.width.specs.declared.Bend.the-variants.{Widening}
-use Rattle.width.proofs.bends.Ways.{lengths-within, straight, long-enough, widened, wide}
+use Rattle.width.specs.declared.Bend.the-variants.{Widening, TooTight}
+use Rattle.width.proofs.bends.Ways.{lengths-within, straight, tight, long-enough, widened, wide}
+use Rattle.width.proofs.Refusals.{bend-exactly}
 
 -- a number that is rounded up is the least that reaches
 up-exactly : (top bottom n cm : ℕ) → 0 < bottom → n ≡ up top bottom → (n ≡ cm) ↔ Least (λ (w : ℕ). top ≤ w * bottom) cm
@@ -58,3 +60,14 @@ module _ (turn radius length knots : ℕ) (lanes : Lanes) where
         (λ e. meant .0 cc),
         (λ l. sym is ∙ ap Widening (meant .1 l)),
       )
+
+  -- a bend is too tight exactly under its least radius in whole metres
+  pub tight-exactly : ¬ (turn ≡ 0) → (bendOf turn radius length knots lanes ≡ TooTight) ↔ (radius < leastRadius turn length)
+  unfolding leastRadius
+  tight-exactly bent = (
+    (λ e. omega (arith, under e)),
+    (λ h. sym (tight turn radius length knots lanes bent (leastLengths turn) refl (omega arith))),
+  )
+    where
+      under : bendOf turn radius length knots lanes ≡ TooTight → 100 * radius < leastLengths turn * length
+      under e = bend-exactly turn radius length knots lanes .number-given 7 (omega arith) .0 (ap bendNumber e) .0 .under

@@ -1,5 +1,5 @@
--- What the width and the bends promise (sections 5, 6 and 8), each cited from its proof. `entriesOf`, `itemsOf`, `tenthsOf`, `widthOf`,
--- `bendOf` and `widthFaultNumber` are what the calls of like names ensure.
+-- What the width and the bends promise (sections 5, 6 and 8), each cited from its proof. `entriesOf`, `itemsOf`, `laneAndAdded`, `tenthsOf`,
+-- `widthOf`, `leastRadius`, `bendOf` and `widthFaultNumber` are what the calls of like names ensure.
 use mathlib.Core.Path.{_≡_}
 use mathlib.Core.Logic.{_↔_, _≢_}
 use Prim.Native.Nat.{ℕ, _+_, _*_, _^_, _≤_, _<_}
@@ -12,7 +12,7 @@ use Rattle.lanes.specs.declared.Lanes.{Lanes}
 use Rattle.lanes.specs.declared.Lanes.the-variants.{One, Two}
 use Rattle.width.specs.Bands.{entriesOf}
 use Rattle.width.specs.Width.{itemsOf, laneAndAdded, tenthsOf, widthOf, widthFigure}
-use Rattle.width.specs.Bends.{leastLengths, bendOf, wideningFigure}
+use Rattle.width.specs.Bends.{leastLengths, leastRadius, bendOf, wideningFigure}
 use Rattle.width.specs.Refusals.{widthFaultNumber, bendNumber, entriesNumber, bendRows, entriesRows}
 use Rattle.width.specs.Comparing.{Harder, NoNarrower}
 use Rattle.width.specs.Starred.{cases, figures}
@@ -22,12 +22,12 @@ use Rattle.width.specs.declared.EntriesFound.{EntriesFound}
 use Rattle.width.specs.declared.Items.{Items}
 use Rattle.width.specs.declared.WidthFault.{WidthFault}
 use Rattle.width.specs.declared.Bend.{Bend}
-use Rattle.width.specs.declared.Bend.the-variants.{Widening}
+use Rattle.width.specs.declared.Bend.the-variants.{Widening, TooTight}
 use Rattle.width.proofs.Totals.{one-lane-total, two-lanes-total}
 use Rattle.width.proofs.bends.Ways.{straight-always}
 use Rattle.width.proofs.Growth.{never-narrower, figure-rises}
 use Rattle.width.proofs.Refusals.{entries-exactly, bend-exactly}
-use Rattle.width.proofs.Meaning.{rounded-exactly, none-from-ten, widening-exactly}
+use Rattle.width.proofs.Meaning.{rounded-exactly, none-from-ten, widening-exactly, tight-exactly}
 use Rattle.width.proofs.Sizes.{width-figure-small, widening-small}
 use Rattle.width.proofs.Cases.{computed}
 
@@ -67,6 +67,11 @@ straight-is-free = straight-always
 pub number-7 : (turn radius length knots : ℕ) (lanes : Lanes) → Exactly (bendRows turn radius length) (bendNumber (bendOf turn radius length knots lanes))
 number-7 = bend-exactly
 
+-- So the least radius in whole metres is the least that is not too tight.
+pub tight-under-least-radius : (turn radius length knots : ℕ) (lanes : Lanes) → turn ≢ 0
+    → (bendOf turn radius length knots lanes ≡ TooTight) ↔ (radius < leastRadius turn length)
+tight-under-least-radius = tight-exactly
+
 -- From 10 lengths on it is 0.
 pub from-ten-lengths : (turn radius length knots : ℕ) (lanes : Lanes) → 10 * length ≤ 100 * radius → bendOf turn radius length knots lanes ≡ Widening 0
 from-ten-lengths = none-from-ten
@@ -99,11 +104,17 @@ entries-unique water speed cross wave = one-answer
 pub items-unique : (s : Stretch) (e : Entries) (r t : Items) → r ≡ itemsOf s e → t ≡ itemsOf s e → r ≡ t
 items-unique s e = one-answer
 
+pub lane-and-added-unique : (items : Items) (r t : ℕ) → r ≡ laneAndAdded items → t ≡ laneAndAdded items → r ≡ t
+lane-and-added-unique items = one-answer
+
 pub tenths-unique : (lanes : Lanes) (items : Items) (r t : ℕ) → r ≡ tenthsOf lanes items → t ≡ tenthsOf lanes items → r ≡ t
 tenths-unique lanes items = one-answer
 
 pub width-unique : (s : Stretch) (e : Entries) (r t : ℕ) → r ≡ widthOf s e → t ≡ widthOf s e → r ≡ t
 width-unique s e = one-answer
+
+pub least-radius-unique : (turn length r t : ℕ) → r ≡ leastRadius turn length → t ≡ leastRadius turn length → r ≡ t
+least-radius-unique turn length = one-answer
 
 pub bend-unique : (turn radius length knots : ℕ) (lanes : Lanes) (r t : Bend)
     → r ≡ bendOf turn radius length knots lanes → t ≡ bendOf turn radius length knots lanes → r ≡ t

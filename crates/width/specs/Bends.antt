@@ -11,6 +11,10 @@ use Rattle.width.specs.declared.Bend.the-variants.{Widening, TooTight}
 unfoldable pub leastLengths : ℕ → ℕ
 leastLengths turn = if turn <ᵇ 25 then 3 else (if turn <ᵇ 35 then 5 else (if turn <ᵇ 55 then 8 else 10))
 
+-- the same in whole metres, rounded up; the length is in cm
+unfoldable pub leastRadius : ℕ → ℕ → ℕ
+leastRadius turn length = up (leastLengths turn * length) 100
+
 -- 9144 × turn × knots² × length² × lanes / (2,446,000,000 × radius) cm, rounded up
 unfoldable pub wideningOf : ℕ → ℕ → ℕ → ℕ → Lanes → ℕ
 wideningOf turn radius length knots lanes =

@@ -2,7 +2,7 @@
 ghost use mathlib.Core.Path.{_≡_};
 ghost use Prim.Native.Nat.{_<_, _^_};
 ghost use Rattle.width.specs.Bands.{waterOf, speedBandOf, entriesOf};
-ghost use Rattle.width.specs.Bends.{bendOf, wideningFigure};
+ghost use Rattle.width.specs.Bends.{leastRadius, bendOf, wideningFigure};
 ghost use Rattle.width.specs.Refusals.{widthFaultNumber};
 ghost use Rattle.width.specs.Width.{itemsOf, tenthsOf, widthOf, laneAndAdded};
 use datum::AlongCurrent;
@@ -188,7 +188,7 @@ pub fn tenths_of(items: Items, lanes: Lanes) -> u16
 }
 
 // The lane and what is added to it, W.
-fn lane_and_added(items: Items) -> u16
+pub fn lane_and_added(items: Items) -> u16
     ensures { λ r. ⌜ r ≡ laneAndAdded items ⌝ }
 {
     items.lane as u16
@@ -200,6 +200,13 @@ fn lane_and_added(items: Items) -> u16
         + items.bed as u16
         + items.depth as u16
         + items.cargo as u16
+}
+
+// The least whole metres of radius that are not too tight for a turn, by the ship's length in cm.
+pub fn least_radius(turn: u8, length: u16) -> u32
+    ensures { λ r. ⌜ r ≡ leastRadius turn length ⌝ }
+{
+    (bends::least_lengths(turn) * (length as u32) + 99) / 100
 }
 
 // What a bend of a turn in degrees and a radius in m asks for, by the ship's length in cm, its speed and the lanes.

@@ -3,17 +3,19 @@
 use mathlib.Core.Path.{_≡_, refl}
 use mathlib.Core.Bool.{Bool, true, false}
 use mathlib.Core.List.{[]}
-use Prim.Native.Nat.{ℕ, _+_, _-_, _*_, _≤_, _<_}
+use mathlib.Core.Logic.{_↔_}
+use Prim.Native.Nat.{ℕ, suc, _+_, _-_, _*_, _≤_, _<_}
 use native.Mathlib.Omega.{arith}
-use borrow.Author.Tests.{ltb-true, ltb-false, lt-ltb, le-ltb}
-use lib.Dec.{T, ltb, leb→le, le→leb}
+use borrow.Author.Tests.{ltb-true, ltb-false, leb-true, leb-false, lt-ltb, le-ltb}
+use lib.Dec.{T, ltb, leb, leb→le, le→leb}
 use lib.ListN.{getD}
 use Rattle.laws.specs.Choice.{_≤ᵇ_}
 use Rattle.laws.specs.Every.{every}
 use Rattle.laws.proofs.Every.{where-true, holds-there, every-at}
 use Rattle.lanes.specs.declared.Lanes.{Lanes}
 use Rattle.depth.specs.declared.Column.{Column}
-use Rattle.depth.specs.Squat.{none, squatTable, columnNumber, squatReading, squatEntry, squatOf}
+use Rattle.depth.specs.declared.Column.the-variants.{A, B, C}
+use Rattle.depth.specs.Squat.{none, squatTable, columnNumber, squatReading, squatEntry, squatOf, fastestEntry}
 use Rattle.depth.proofs.squat.Columns.{column-most, reading-most}
 
 -- a speed outside the table has no entry
@@ -114,3 +116,51 @@ pub lanes-columns-speeds : (lanes lanes' : Lanes) (c c' : Column) (v v' : ℕ) �
 lanes-columns-speeds lanes lanes' c c' v v' hl hc hv hv' =
     squat-rises (columnNumber c) (columnNumber c') (squatReading lanes) (squatReading lanes') v v' hc (column-most c') hl (reading-most lanes')
     hv hv'
+
+-- a column has an entry at the speeds to its fastest, which is 12 in A and one less in each later column, and at none behind it
+within : ℕ → ℕ → ℕ → Bool
+within c l v = where-true (2 ≤ᵇ v) (where-true (v ≤ᵇ 12 - c) (suc (squatEntry c l v) ≤ᵇ none))
+
+within-test : T (each-entry within)
+unfolding squatEntry within
+within-test = tt
+
+behind : ℕ → ℕ → ℕ → Bool
+behind c l v = where-true (suc (12 - c) ≤ᵇ v) (none ≤ᵇ squatEntry c l v)
+
+behind-test : T (each-entry behind)
+unfolding squatEntry behind
+behind-test = tt
+
+module _ (c l v : ℕ) (hc : c ≤ 2) (hl : l ≤ 1) (hv : 2 ≤ v) where
+  entry-within : v ≤ 12 - c → squatEntry c l v < none
+  unfolding within
+  entry-within h =
+      leb→le (suc (squatEntry c l v)) none
+      (holds-there (v ≤ᵇ 12 - c) _
+      (holds-there (2 ≤ᵇ v) _ (at-entry within within-test c l v hc hl (omega arith)) (le→leb 2 v hv)) (le→leb v (12 - c) h))
+
+  none-behind : 12 - c < v → none ≤ squatEntry c l v
+  unfolding behind
+  none-behind h = go (ltb 12 v) refl
+    where
+      go : (t : Bool) → ltb 12 v ≡ t → none ≤ squatEntry c l v
+      go true e = omega (arith, too-fast c l v (ltb-true _ _ e))
+      go false e =
+          leb→le none (squatEntry c l v)
+          (holds-there (suc (12 - c) ≤ᵇ v) _ (at-entry behind behind-test c l v hc hl (ltb-false _ _ e)) (le→leb (suc (12 - c)) v h))
+
+  entry-to : squatEntry c l v < none → v ≤ 12 - c
+  entry-to h = go (leb v (12 - c)) refl
+    where
+      go : (t : Bool) → leb v (12 - c) ≡ t → v ≤ 12 - c
+      go true e = leb-true _ _ e
+      go false e = absurd (omega (arith, none-behind (leb-false _ _ e)))
+
+fastest-by-number : (c : Column) → fastestEntry c ≡ 12 - columnNumber c
+fastest-by-number A = refl
+fastest-by-number B = refl
+fastest-by-number C = refl
+
+pub fastest-exactly : (lanes : Lanes) (c : Column) (v : ℕ) → 2 ≤ v → (squatOf lanes c v < none) ↔ (v ≤ fastestEntry c)
+fastest-exactly lanes c v h = rw (fastest-by-number c) (entry-to _ _ _ (column-most c) (reading-most lanes) h, entry-within _ _ _ (column-most c) (reading-most lanes) h)

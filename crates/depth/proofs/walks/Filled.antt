@@ -9,7 +9,9 @@ use Rattle.depth.specs.declared.Stretch.{Stretch}
 use Rattle.depth.specs.declared.Column.the-variants.{A}
 use Rattle.depth.specs.declared.Try.{Try}
 use Rattle.depth.specs.declared.Worksheet.{Worksheet}
-use Rattle.depth.specs.Worksheet.{columnTry, movesOn, tries, blankTry, worksheetOf, lastTry, answerOf, workDepth}
+use Rattle.depth.specs.declared.DepthFigures.{DepthFigures}
+use Rattle.depth.specs.declared.Depth.the-variants.{Cut}
+use Rattle.depth.specs.Worksheet.{columnTry, movesOn, tries, blankTry, worksheetOf, lastTry, answerOf, workDepth, Counted}
 use Rattle.depth.proofs.walks.Tries.{walk-stops, walk-goes-on, walk-last, tries-count}
 
 -- three lines, of which the first are these tries
@@ -85,3 +87,7 @@ module _ (q : Stretch) where
   pub work-of-last : workDepth q ≡ answerOf (getD (worksheetOf q .tries) (worksheetOf q .count - 1) blankTry) (worksheetOf q .count)
   unfolding workDepth
   work-of-last = sym (ap₂ answerOf last-line-is (count-is (worksheetOf q) refl))
+
+  -- the columns of a cut are the worksheet's count
+  pub columns-are : (f : DepthFigures) → Counted q (Cut f) → f .columns ≡ worksheetOf q .count
+  columns-are f counted = counted ∙ sym (count-is (worksheetOf q) refl)

@@ -1,13 +1,15 @@
--- The first line of a text, byte by byte; a line without a carriage return; one that is passed over.
-use mathlib.Core.Path.{_≡_, refl, ap}
-use mathlib.Core.Bool.{true, false}
+-- The first line of a text, byte by byte; a line without a carriage return, and that it is the front of its text; one that is passed over.
+use mathlib.Core.Path.{_≡_, refl, ap, sym, _∙_}
+use mathlib.Core.Bool.{Bool, true, false}
 use mathlib.Core.List.{List, [], _∷_}
-use Prim.Native.Nat.{ℕ, suc, _+_, _<_}
+use Prim.Native.Nat.{ℕ, suc, _+_, _≤_, _<_}
 use native.Mathlib.Numerals.{add-one}
 use native.Mathlib.Omega.{arith}
 use borrow.Author.Tests.{eq-eqb, ne-eqb}
+use lib.Dec.{eqb}
 use lib.ListN.{length, take, drop, getD}
-use lib.Seq.{drop-cons}
+use lib.Seq.{take-take, drop-cons}
+use Rattle.laws.specs.Choice.{if_then_else_}
 use Rattle.texts.specs.Cutting.{newline, return, hash, lineOf, bare, blank, passedOver}
 
 -- what stands from a place on, where something does
@@ -71,3 +73,31 @@ bare-same (b ∷ []) n e f =
 bare-same (b ∷ c ∷ line) n e f =
     let z : n ≡ suc (length line) = omega arith in
     ap (λ (l : List ℕ). b ∷ l) (bare-same (c ∷ line) (length line) (omega arith) (rw z at f))
+
+-- a line is the front of its text, and without its carriage return the front of the line
+pub line-front : (text : List ℕ) → take (length (lineOf text)) text ≡ lineOf text
+unfolding lineOf
+line-front [] = refl
+line-front (b ∷ text) = go (eqb b newline) (line-front text)
+  where
+    go : (t : Bool) → take (length (lineOf text)) text ≡ lineOf text
+        → take (length (if t then [] else b ∷ lineOf text)) (b ∷ text) ≡ (if t then [] else b ∷ lineOf text)
+    go true further = refl
+    go false further = ap (λ (l : List ℕ). b ∷ l) further
+
+bare-front : (line : List ℕ) → (take (length (bare line)) line ≡ bare line) × (length (bare line) ≤ length line)
+unfolding bare
+bare-front [] = (refl, omega arith)
+bare-front (b ∷ []) = go (eqb b return)
+  where
+    go : (t : Bool) → (take (length (if t then [] else b ∷ [])) (b ∷ []) ≡ (if t then [] else b ∷ [])) × (length (if t then [] else b ∷ []) ≤ 1)
+    go true = (refl, omega arith)
+    go false = (refl, omega arith)
+bare-front (b ∷ c ∷ line) = let r = bare-front (c ∷ line) in (ap (λ (l : List ℕ). b ∷ l) (r .0), omega (arith, r .1))
+
+pub bare-line-front : (text : List ℕ) → take (length (bare (lineOf text))) text ≡ bare (lineOf text)
+bare-line-front text =
+    let r = bare-front (lineOf text) in
+    sym (take-take (length (bare (lineOf text))) (length (lineOf text)) text (r .1))
+    ∙ ap (take (length (bare (lineOf text)))) (line-front text)
+    ∙ r .0

@@ -28,12 +28,13 @@ use Rattle.typed.specs.Rows.{bytesOf, count, rows, rowAt}
 use Rattle.typed.specs.Lines.{token, nameText, lineText}
 use Rattle.typed.specs.Reading.{stands, named}
 use Rattle.typed.proofs.Promises.{has-own-name}
-use Rattle.typed.proofs.meaning.Fronts.{differs, differ-stands, front-stands}
+use Rattle.typed.proofs.meaning.Fronts.{differs, differ-stands}
 use Rattle.texts.specs.Cutting.{newline, space, beginsSheet}
 use Rattle.texts.specs.Shown.{rowFigure, rowLine, rowsText, refusedText, readText, shownText, sheetText}
 use Rattle.texts.specs.Texts.{allOf}
 use Rattle.texts.specs.Typed.{kept, sheetsOf, Faultless, typedBytes, rowLines, sheetLines, Titled, linesOfAll, figuresOfAll, SheetFigures, Proper, TypedAs, textOf, LineKind, begins, row, OneLine, IsSheet, shownAll}
 use Rattle.texts.proofs.meaning.Complete.{complete-text}
+use Rattle.texts.proofs.meaning.Names.{title-begins}
 use Rattle.texts.proofs.meaning.Places.{its-bytes, bytes-of-text}
 use Rattle.texts.proofs.meaning.Wholes.{each-line}
 use Rattle.texts.proofs.meaning.Writing.{Stays, kept-of-text, printed-line, letter-kept, sheet-stays, title-kept}
@@ -94,16 +95,11 @@ title-printed index =
     each-append (λ (b : ℕ). 32 ≤ b) (bytesOf "sheet ") (countText index)
     (omega arith & omega arith & omega arith & omega arith & omega arith & omega arith & tt) (digits-printed index)
 
-title-begins : (index : ℕ) → beginsSheet (titleOf index) ≡ true
-unfolding beginsSheet
-title-begins index =
-    rw (ne-eqb (length (titleOf index)) 5 (λ (e : length (titleOf index) ≡ 5). omega arith)) (front-stands (bytesOf "sheet ") (countText index))
-
 title-one-line : (index : ℕ) → OneLine (titleOf index)
 title-one-line index = printed-line (titleOf index) (title-printed index)
 
 title-stays : (index : ℕ) → Stays (titleOf index)
-title-stays index = record { one = title-one-line index; not-passed = title-kept (titleOf index) (title-begins index) }
+title-stays index = record { one = title-one-line index; not-passed = title-kept (titleOf index) (title-begins (countText index)) }
 
 module _ (fault : ReadFault) where
   refused-printed : Each (λ (b : ℕ). 32 ≤ b) (refusedLine fault)
@@ -172,7 +168,7 @@ read-fine bytes s e = record { each-field = refl; none-bad = read-valid bytes s 
 each-read-fine : (index : ℕ) (all : List (List ℕ)) (p : Each IsSheet all) → Each Proper (titledAll index all p)
 each-read-fine index [] p = tt
 each-read-fine index (bytes ∷ rest) p = (
-  record { begins = title-begins index; figures-fine = read-fine bytes (p .0 .0) (p .0 .1) },
+  record { begins = title-begins (countText index); figures-fine = read-fine bytes (p .0 .0) (p .0 .1) },
   each-read-fine (index + 1) rest (p .1),
 )
 

@@ -48,7 +48,7 @@ abbrev pub placeBehind : List ℕ → ℕ → ℕ
 placeBehind text at = min (at + length (lineOf (drop at text)) + 1) (length text)
 
 -- what stands behind the end of a text is what stands at its end
-drop-least : (text : List ℕ) (n : ℕ) → drop (min n (length text)) text ≡ drop n text
+pub drop-least : (text : List ℕ) (n : ℕ) → drop (min n (length text)) text ≡ drop n text
 drop-least [] n = drop-nil (min n 0) ∙ sym (drop-nil n)
 drop-least (b ∷ text) zero = let e : min 0 (suc (length text)) ≡ 0 = omega arith in rw e
 drop-least (b ∷ text) (suc n) = let e : min (suc n) (suc (length text)) ≡ suc (min n (length text)) = omega arith in rw e (drop-least text n)

@@ -6,14 +6,13 @@ use Prim.Native.Nat.{ℕ, suc, _+_, _-_, _≤_, _<_}
 use native.Mathlib.Numerals.{add-one}
 use native.Mathlib.Omega.{arith}
 use borrow.Author.Tests.{lt-ltb}
-use lib.Dec.{eqb}
-use lib.ListN.{length, getD, take, drop, length-drop}
-use lib.Seq.{take-take, drop-cons}
+use lib.ListN.{length, getD, drop, length-drop}
+use lib.Seq.{drop-cons}
 use Rattle.laws.proofs.Each.{each-append}
 use Rattle.laws.specs.Choice.{if_then_else_}
 use Rattle.laws.specs.Each.{Each}
 use Rattle.typed.specs.Rows.{bytesOf}
-use Rattle.texts.specs.Cutting.{newline, return, lineOf, linesOf, bare, nextNumber}
+use Rattle.texts.specs.Cutting.{lineOf, linesOf, bare, nextNumber}
 use Rattle.texts.specs.Messages.{quotedText, stoodText}
 use Rattle.texts.specs.Steps.{faultNumber}
 use Rattle.texts.specs.Texts.{beginning, happenedIn, ifHappened, turnOn, endedAt, allOf}
@@ -23,6 +22,7 @@ use Rattle.texts.specs.declared.Found.{Found}
 use Rattle.texts.specs.declared.LineFault.{LineFault}
 use Rattle.texts.specs.declared.LineFault.the-variants.{NoSheet, Missing, NoName, Twice, Misplaced, NoFigure, NoUnit, OutOfRange, Disagrees}
 use Rattle.texts.specs.declared.Place.{Place}
+use Rattle.texts.proofs.cutting.Lines.{bare-line-front}
 use Rattle.texts.proofs.meaning.Cuts.{placeBehind, lines-from, lines-end}
 use Rattle.texts.proofs.meaning.Stepping.{turnAt, all-line, all-end, by-lines, all-from-beginning}
 
@@ -65,34 +65,6 @@ fault-back Disagrees = refl
 
 pub number-one : (fault other : LineFault) → faultNumber fault ≡ faultNumber other → fault ≡ other
 number-one fault other e = sym (fault-back fault) ∙ ap (λ (n : ℕ). getD faults (n - 1) NoSheet) e ∙ fault-back other
-
--- a line is the front of its text, and without its carriage return the front of the line
-line-front : (text : List ℕ) → take (length (lineOf text)) text ≡ lineOf text
-unfolding lineOf
-line-front [] = refl
-line-front (b ∷ text) = go (eqb b newline) (line-front text)
-  where
-    go : (t : Bool) → take (length (lineOf text)) text ≡ lineOf text
-        → take (length (if t then [] else b ∷ lineOf text)) (b ∷ text) ≡ (if t then [] else b ∷ lineOf text)
-    go true further = refl
-    go false further = ap (λ (l : List ℕ). b ∷ l) further
-
-bare-front : (line : List ℕ) → (take (length (bare line)) line ≡ bare line) × (length (bare line) ≤ length line)
-unfolding bare
-bare-front [] = (refl, omega arith)
-bare-front (b ∷ []) = go (eqb b return)
-  where
-    go : (t : Bool) → (take (length (if t then [] else b ∷ [])) (b ∷ []) ≡ (if t then [] else b ∷ [])) × (length (if t then [] else b ∷ []) ≤ 1)
-    go true = (refl, omega arith)
-    go false = (refl, omega arith)
-bare-front (b ∷ c ∷ line) = let r = bare-front (c ∷ line) in (ap (λ (l : List ℕ). b ∷ l) (r .0), omega (arith, r .1))
-
-bare-line-front : (text : List ℕ) → take (length (bare (lineOf text))) text ≡ bare (lineOf text)
-bare-line-front text =
-    let r = bare-front (lineOf text) in
-    sym (take-take (length (bare (lineOf text))) (length (lineOf text)) text (r .1))
-    ∙ ap (take (length (bare (lineOf text)))) (line-front text)
-    ∙ r .0
 
 -- the number of the next line, while there are numbers
 next-number : (n : ℕ) → n < 4294967295 → nextNumber n ≡ n + 1

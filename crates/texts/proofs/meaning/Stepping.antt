@@ -29,7 +29,7 @@ module _ (text : List ℕ) where
   turn-place c = refl
 
   -- the next thing is on this line, or from the next on
-  next-line : (c : Cursor) → c .at < length text
+  pub next-line : (c : Cursor) → c .at < length text
       → nextOf text c ≡ (if happenedIn (turnAt c .event) then turnAt c else nextOf text (turnAt c .cursor))
   unfolding nextOf foundIn turnOn
   next-line c h = rw (lines-from text (c .at) h)
@@ -39,7 +39,7 @@ module _ (text : List ℕ) where
   all-line c h = rw (lines-from text (c .at) h)
 
   -- behind the last line
-  next-end : (c : Cursor) → length text ≤ c .at → nextOf text c ≡ endedAt c
+  pub next-end : (c : Cursor) → length text ≤ c .at → nextOf text c ≡ endedAt c
   unfolding nextOf foundIn
   next-end c h = rw (lines-end text (c .at) h)
 

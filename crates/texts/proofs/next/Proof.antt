@@ -6,7 +6,7 @@ use borrow.Author.Needs.{needs}
 use lib.ListN.{length}
 use Rattle.texts.specs.Texts.{happenedIn, nextOf}
 use Rattle.texts.specs.declared.Found.{Found}
-use Rattle.texts.proofs.steps.Finding.{found-now, found-on, found-end}
+use Rattle.texts.proofs.meaning.Stepping.{next-line, next-end}
 use Rattle.texts.proofs.next.Statement.{statement}
 use Rattle.texts.proofs.next.Tie as tie
 
@@ -22,7 +22,7 @@ returns c =
     let l = c .before .before .before .before .before .loop in
     let t = c .before .before .turn in
     let e = sym (ap (λ (f : Found). happenedIn (f .event)) (t .ensures .0)) ∙ sym (c .before .happened .ensures) ∙ c .if2 .taken in
-    t .ensures .0 ∙ found-now text (l .now) (omega arith) e ∙ l .inv
+    t .ensures .0 ∙ sym (rw e at (next-line text (l .now) (omega arith))) ∙ l .inv
 
 loop-again : tie.Need-loop-again Inv-loop μ-loop
 loop-again c =
@@ -30,13 +30,13 @@ loop-again c =
     let l = c .before .before .before .before .before .before .loop in
     let t = c .before .before .before .turn in
     let e = sym (ap (λ (f : Found). happenedIn (f .event)) (t .ensures .0)) ∙ sym (c .before .before .happened .ensures) ∙ c .before .if2 .left in
-    ap (λ (f : Found). nextOf text (f .cursor)) (t .ensures .0) ∙ sym (found-on text (l .now) (omega arith) e) ∙ l .inv
+    ap (λ (f : Found). nextOf text (f .cursor)) (t .ensures .0) ∙ sym (rw e at (next-line text (l .now) (omega arith))) ∙ l .inv
 
 returns-2 : tie.Need-returns-2 Inv-loop μ-loop
 returns-2 c =
     let text = c .before .before .before .before .before .args .text .now in
     let l = c .before .before .before .loop in
-    c .ended .ensures ∙ found-end text (l .now) (c .before .if1 .left) ∙ l .inv
+    c .ended .ensures ∙ sym (next-end text (l .now) (c .before .if1 .left)) ∙ l .inv
 
 pub next-spec : {M : Type 1} → statement M
 next-spec =

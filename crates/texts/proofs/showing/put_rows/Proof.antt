@@ -3,6 +3,7 @@ use Prim.Native.Nat.{_+_, _*_, _-_, _≤_}
 use mathlib.Core.Path.{_≡_, refl}
 use mathlib.Core.List.{[]}
 use native.Mathlib.Omega.{arith}
+use borrow.Author.Needs.{needs}
 use lib.ListN.{length}
 use Rattle.lines.proofs.putting.Placing.{put-none}
 use Rattle.typed.specs.Rows.{count}
@@ -40,7 +41,7 @@ put-rows-spec =
     Inv-loop
     μ-loop
     loop-holds
-    (λ c κs. omega arith)
+    (λ c κs. search needs)
     (λ c κs. (omega arith, omega arith))
     (λ c. omega arith)
     (λ c. omega arith)

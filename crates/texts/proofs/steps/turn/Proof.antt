@@ -1,8 +1,9 @@
 -- `texts::steps::turn` meets its contract: the line up to its end, and what it brings.
-use mathlib.Core.Path.{refl}
+use mathlib.Core.Path.{refl, sym}
 use native.Mathlib.Omega.{arith}
 use borrow.Author.Needs.{needs}
-use Rattle.texts.proofs.steps.Turning.{within-line, part-size, turned}
+use lib.Seq.{length-take-le}
+use Rattle.texts.proofs.steps.Turning.{turned}
 use Rattle.texts.proofs.steps.turn.Statement.{statement}
 use Rattle.texts.proofs.steps.turn.Tie as tie
 
@@ -25,15 +26,9 @@ turn-spec =
     (λ c. search needs)
     (λ c. search needs)
     (λ c κs. search needs)
-    (λ c.
-    let a = c .before .before .before .before .before .before .args in
-    let end = c .before .before .before .before .line-end in
-    part-size (a .text .now) (a .cursor .at) (end .result) (end .ensures .0) (c .before .before .bare-length .result) (c .before .before .bare-length .ensures .0) (end .ensures .1))
+    (λ c. sym (length-take-le _ _ (c .before .before .bare-length .ensures .2)))
     (λ c κs. search needs)
     (λ c κs. search needs)
-    (λ c.
-    let a = c .before .before .before .before .before .before .before .before .before .args in
-    let end = c .before .before .before .before .before .before .before .line-end in
-    omega (arith, within-line (a .text .now) (a .cursor .at) (end .result) (end .ensures .0) (c .before .before .before .before .before .bare-length .result) (c .before .before .before .before .before .bare-length .ensures .0)))
+    (λ c. omega arith)
     (λ c κs. search needs)
     returns)

@@ -1,0 +1,2 @@
+mod meaning
+pub mod Promises

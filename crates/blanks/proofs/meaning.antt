@@ -1,0 +1,6 @@
+-- What a filled text is, byte by byte, and how long.
+pub mod Trimming
+pub mod Columns
+pub mod Filling
+pub mod Sizes
+pub mod Sample

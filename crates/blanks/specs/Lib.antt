@@ -1,0 +1,2 @@
+-- Texts whose blanks are filled.
+pub mod Blanks

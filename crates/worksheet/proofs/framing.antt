@@ -1,0 +1,3 @@
+-- Names and bytes as a page shows them.
+mod Hex
+mod Names
