@@ -98,7 +98,9 @@ STEP_LOST = re.compile("no occurrence of the path|has no `Need-|has no field")
 
 
 def first_error(output, crate):
-    """The first error: its file and line, and its words. That a citing proof is not admitted is no reason."""
+    """The first error: its file and line, and its words, which the prover may break over lines that begin with spaces. That a citing
+    proof is not admitted is no reason."""
+    output = re.sub(r"\n +", " ", output)
     found = re.findall(r"^(\S*?:\d+):\d+: (error(?!.*was not admitted).*)$", output, re.M)
     found = found or re.findall(r"^note: (\S*?:\d+):\d+: (.*)$", output, re.M)
     if not found:
