@@ -10,6 +10,7 @@ use Rattle.laws.specs.Extremes.{Least}
 use Rattle.laws.specs.Rows.{Exactly}
 use Rattle.laws.proofs.Unique.{one-answer}
 use Rattle.lanes.specs.declared.Lanes.{Lanes}
+use Rattle.lanes.specs.declared.Lanes.the-variants.{Two}
 use Rattle.depth.specs.declared.Stretch.{Stretch}
 use Rattle.depth.specs.declared.Column.{Column}
 use Rattle.depth.specs.declared.Column.the-variants.{A}
@@ -29,6 +30,7 @@ use Rattle.depth.specs.Worksheet.{endless, columnTry, blankTry, findingO
 use Rattle.depth.specs.Reasons.{IsFigure, SiltsUp, FirstUnusable, Reasoned, depthRows}
 use Rattle.depth.specs.Harder.{Harder, Deeper, NeverCured}
 use Rattle.depth.specs.Starred.{cases, figures}
+use Rattle.depth.proofs.squat.Columns.{two-most}
 use Rattle.depth.proofs.squat.Table.{lanes-columns-speeds, fastest-exactly}
 use Rattle.depth.proofs.walks.Tries.{tries-count}
 use Rattle.depth.proofs.walks.Filled.{work-of-last, last-line-is, columns-are}
@@ -38,13 +40,17 @@ use Rattle.depth.proofs.cuts.LeastCut as least-cut
 use Rattle.depth.proofs.cuts.Reasons as reasons
 use Rattle.depth.proofs.cuts.Silted as silted
 use Rattle.depth.proofs.Refusals.{depth-exactly}
-use Rattle.depth.proofs.cuts.Demand.{work-deeper, work-never-cured, meets-too}
+use Rattle.depth.proofs.cuts.Demand as demand
 use Rattle.depth.proofs.Cases.{computed}
 
 -- The squat never falls from column A to B to C, from lone to passing, or with the speed, from the table's first speed on; none counts as greatest.
 pub squat-never-falls : (lanes lanes' : Lanes) (c c' : Column) (speed speed' : ℕ) → squatReading lanes ≤ squatReading lanes'
     → columnNumber c ≤ columnNumber c' → 2 ≤ speed → speed ≤ speed' → squatOf lanes c speed ≤ squatOf lanes' c' speed'
 squat-never-falls = lanes-columns-speeds
+
+-- No lanes read a greater squat than two.
+pub two-lanes-read-most : (lanes : Lanes) → squatReading lanes ≤ squatReading Two
+two-lanes-read-most = two-most
 
 -- From the table's first speed on, a column has an entry exactly when the speed is at most its fastest, one lane or two.
 pub entry-to-the-fastest : (lanes : Lanes) (c : Column) (speed : ℕ) → 2 ≤ speed → (squatOf lanes c speed < none) ↔ (speed ≤ fastestEntry c)
@@ -154,17 +160,25 @@ failing-try-shown q fault e = ap findingOf (last-line-is q) ∙ reasons.last-sho
 pub figures-in-range : (q : Stretch) (f : DepthFigures) → workDepth q ≡ Cut f → Ranges f
 figures-in-range = least-cut.figures-ranges
 
--- Demand 3: a stretch that is as hard or harder, over the same natural depth, is never shallower where both are answered.
-pub never-shallower : (q q' : Stretch) → Harder q q' → Deeper 0 (workDepth q) (workDepth q')
-never-shallower q q' h = work-deeper q q' h 0 (omega arith)
+-- Demand 3, centimetre for centimetre: of two stretches over the same natural depth, where both are answered, the one that is as hard or harder has a cut
+-- that is deeper by at least what its draft and wave allowance together are greater by; so it is never shallower.
+pub deeper-by : (q q' : Stretch) → Harder q q' → (cm : ℕ) → q .draft + q .allowance + cm ≤ q' .draft + q' .allowance → Deeper cm (workDepth q) (workDepth q')
+deeper-by = demand.work-deeper
 
--- What meets the definition for it meets it for the easier stretch too.
+pub never-shallower : (q q' : Stretch) → Harder q q' → Deeper 0 (workDepth q) (workDepth q')
+never-shallower q q' h = deeper-by q q' h 0 (omega arith)
+
+-- What meets the definition for it meets it for the easier stretch too, as many centimetres higher, and at the same cut.
+pub meets-higher : (q q' : Stretch) → Harder q q' → (cm : ℕ) → q .draft + q .allowance + cm ≤ q' .draft + q' .allowance → 2 ≤ q .speed
+    → (d : ℕ) → Meets q' d → (cm ≤ d) × Meets q (d - cm)
+meets-higher = demand.meets-higher
+
 pub meets-the-easier : (q q' : Stretch) → Harder q q' → 2 ≤ q .speed → (d : ℕ) → Meets q' d → Meets q d
-meets-the-easier = meets-too
+meets-the-easier = demand.meets-too
 
 -- Nor is a refusal, any of the three, ever cured by it; it may become another of them. A speed under 2 has no entry and a faster one may have, so the easier speed is at least 2, as on every sheet.
 pub never-cured : (q q' : Stretch) → Harder q q' → 2 ≤ q .speed → NeverCured (workDepth q) (workDepth q')
-never-cured q q' h from = work-never-cured q q' h 0 (omega arith) from
+never-cured q q' h from = demand.work-never-cured q q' h 0 (omega arith) from
 
 -- The starred cases have their figures.
 pub starred : map workDepth cases ≡ figures

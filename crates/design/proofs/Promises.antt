@@ -46,7 +46,8 @@ use Rattle.design.specs.Design.{levelFor, depthStretch, widthStretch, sp
 use Rattle.design.specs.Numbers.{codeOf, fieldOf, numberCount, numbersOf}
 use Rattle.design.specs.Refusals.{reasonNumber, reasonField, sheetIn, UnderThreeBeams, levelIn, offRecord, rows}
 use Rattle.design.specs.Answers.{stretchOf, FiguresAre, WorkedFrom}
-use Rattle.design.specs.Harder.{cut, width, Hardening, hardenings, Sixteen, Seventeen, BothPass, EasierPasses, AnyTwo, NeverEasier, NeverEasierBut, _never-lessens_}
+use Rattle.design.specs.Harder.{cut, width, Hardening, hardenings, Sixteen, Seventeen, BySpeed, NoEasier, BothPass, EasierPasses, AnyTwo, NeverEasier, NeverEasierBut, _never-lessens_}
+use Rattle.design.specs.Growth.{Deeper, CentimetreForCentimetre, loads, NamesTwo, growths, Grown}
 use Rattle.design.specs.Starred.{writing, starredSheets, starredNumbers}
 use Rattle.design.specs.declared.Figures.{Figures}
 use Rattle.design.specs.declared.Reason.{Reason}
@@ -62,6 +63,8 @@ use Rattle.design.proofs.rows.Exactly.{design-exactly, field-exactly, f
 use Rattle.design.proofs.rows.Exchanged.{exchanged}
 use Rattle.design.proofs.harder.Never as the-harder
 use Rattle.design.proofs.harder.Cured as the-cure
+use Rattle.design.proofs.harder.Deepening as the-deeper
+use Rattle.design.proofs.harder.Growths.{each-grown}
 use Rattle.design.proofs.Starred as the-starred
 
 -- Demand 1
@@ -153,6 +156,24 @@ wider-cures-16 = the-cure.wider-cures-16
 
 pub wider-cures-17 : ¬ NeverEasierBut Sixteen BothPass (4 never-lessens width)
 wider-cures-17 = the-cure.wider-cures-17
+
+-- Centimetre for centimetre: of two sheets over one table that differ in the draft alone, or in the wave allowance alone, and are both answered, the cut
+-- grows by at least as many centimetres as the figure.
+pub centimetre-for-centimetre : Each CentimetreForCentimetre loads
+centimetre-for-centimetre = the-deeper.each-centimetre
+
+-- Naming two lanes, where one was named or the traffic gave them, never gives a shallower cut where both sheets are answered,
+pub two-lanes-never-shallower : (fewer two table : List ℕ) → Bytes fewer → Bytes two → NamesTwo fewer two → Deeper 0 (designOf fewer table) (designOf two table)
+two-lanes-never-shallower = the-deeper.two-never-shallower
+
+-- nor does it turn a refusal other than 16 and 17 into an answer.
+pub two-lanes-never-easier : (fewer two table : List ℕ) → Bytes fewer → Bytes two → NamesTwo fewer two → NoEasier BySpeed cut (designOf fewer table) (designOf two table)
+two-lanes-never-easier = the-deeper.two-never-easier
+
+-- No more can be promised, and it may cost more. S with a draft of 9.99 and then 10 m: the cut grows by 1 cm; of 10 and then 10.01 m: by 2. With an
+-- allowance of 30 and then 31 cm: by 1; over a bed of 5.78 m with 31 and then 32: by 16. In one lane and then two, at 2 knots: by nothing; at 8: by 40.
+pub growth-computed : Each Grown growths
+growth-computed = each-grown
 
 -- The numbers that turn a sheet away
 module _ (bytes table : List ℕ) (small : Bytes bytes) where

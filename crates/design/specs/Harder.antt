@@ -52,13 +52,16 @@ hardenings =
 abbrev pub figureIn : List ℕ → ℕ → ℕ
 figureIn bytes k = field (groupsOf bytes) k
 
--- two strings of bytes that are read as sheets, so that every field is in its range; they differ in field k, which is greater in the second,
--- and come to the same lanes by the lane rule
-pub record Harder (k : ℕ) (easy hard : List ℕ) : Type 0 where
+-- two strings of bytes that are read as sheets, so that every field is in its range; they differ in field k alone, which is greater in the second
+pub record Raised (k : ℕ) (easy hard : List ℕ) : Type 0 where
   pub easy-read : readOf easy ≡ Good (sheetIn easy)
   pub hard-read : readOf hard ≡ Good (sheetIn hard)
   pub greater : figureIn easy k < figureIn hard k
   pub else-equal : (j : ℕ) → 1 ≤ j → j ≤ count → j ≢ k → figureIn easy j ≡ figureIn hard j
+
+-- two of these that come to the same lanes by the lane rule
+pub record Harder (k : ℕ) (easy hard : List ℕ) : Type 0 where
+  pub raised : Raised k easy hard
   pub same-lanes : lanesFor (sheetIn easy) ≡ lanesFor (sheetIn hard)
 
 -- 16 and 17: a deeper or wider cut may raise the critical speed, or reach a filled part of its table

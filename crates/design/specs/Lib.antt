@@ -5,3 +5,4 @@ pub mod Refusals
 pub mod Numbers
 pub mod Harder
 pub mod Starred
+pub mod Growth

@@ -6,12 +6,12 @@ use Rattle.datum.specs.Datum.{belowChart}
 use Rattle.sheet.specs.declared.Sheet.{Sheet}
 use Rattle.sheet.specs.declared.LevelSource.the-variants.{Given}
 
--- S with its length, beam, speed, bed, wave allowance z2, silting P, lanes, turn, radius and side slope as the case has them
-abbrev pub alteredS : ℕ → ℕ → ℕ → ℕ → ℕ → ℕ → ℕ → ℕ → ℕ → ℕ → Sheet
-alteredS length beam speed bed allowance silting lanes turn radius slope =
+-- S with its draft, length, beam, speed, bed, wave allowance z2, silting P, lanes, turn, radius and side slope as the case has them
+abbrev pub alteredS : ℕ → ℕ → ℕ → ℕ → ℕ → ℕ → ℕ → ℕ → ℕ → ℕ → ℕ → Sheet
+alteredS draft length beam speed bed allowance silting lanes turn radius slope =
     record {
       deadweight = 40000;
-      draft = 1000;
+      draft = draft;
       length = length;
       beam = beam;
       speed = speed;
@@ -41,7 +41,7 @@ alteredS length beam speed bed allowance silting lanes turn radius slope =
     }
 
 abbrev pub sheetS : Sheet
-sheetS = alteredS 20000 3000 8 500 30 0 1 0 0 0
+sheetS = alteredS 1000 20000 3000 8 500 30 0 1 0 0 0
 
 abbrev pub bytesS : List ℕ
 bytesS =

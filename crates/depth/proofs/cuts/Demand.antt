@@ -3,6 +3,7 @@
 use mathlib.Core.Path.{_≡_, subst}
 use Prim.Native.Nat.{ℕ, _+_, _-_, _≤_}
 use native.Mathlib.Omega.{arith}
+use Rattle.laws.proofs.Extremes.{least-grows}
 use Rattle.depth.specs.declared.Stretch.{Stretch}
 use Rattle.depth.specs.declared.Depth.{Depth}
 use Rattle.depth.specs.declared.Depth.the-variants.{Cut, NoCut}
@@ -15,8 +16,8 @@ use Rattle.depth.proofs.cuts.LeastCut.{served-some, work-as-defined}
 
 module _ (q q' : Stretch) (h : Harder q q') (k : ℕ) (hk : q .draft + q .allowance + k ≤ q' .draft + q' .allowance) where
   module _ (from : 2 ≤ q .speed) where
-    meets-easier : (d : ℕ) → Meets q' d → (k ≤ d) × Meets q (d - k)
-    meets-easier d m =
+    pub meets-higher : (d : ℕ) → Meets q' d → (k ≤ d) × Meets q (d - k)
+    meets-higher d m =
         let up = column-up (naturalOf q) (d - k) d (omega arith) in
         let v : Serves q (ownColumn q (d - k)) (d - k) =
         serves-easier q q' h from k hk (ownColumn q (d - k)) (ownColumn q d) up d (rw (← (h .natural)) (m .served)) in
@@ -25,7 +26,7 @@ module _ (q q' : Stretch) (h : Harder q q') (k : ℕ) (hk : q .draft + q .allowa
 
     never-cured : (r r' : Depth) → AsDefined q r → AsDefined q' r' → NeverCured r r'
     never-cured (Cut f) r' a a' = tt
-    never-cured (NoCut fault) (Cut f') a a' = a (f' .cut .0 - k) (meets-easier (f' .cut .0) (a' .cut .holds) .1)
+    never-cured (NoCut fault) (Cut f') a a' = a (f' .cut .0 - k) (meets-higher (f' .cut .0) (a' .cut .holds) .1)
     never-cured (NoCut fault) (NoCut fault') a a' = tt
 
     pub work-never-cured : NeverCured (workDepth q) (workDepth q')
@@ -34,8 +35,7 @@ module _ (q q' : Stretch) (h : Harder q q') (k : ℕ) (hk : q .draft + q .allowa
   -- an answered stretch has a speed of the table
   deeper : (r r' : Depth) → AsDefined q r → AsDefined q' r' → Deeper k r r'
   deeper (Cut f) (Cut f') a a' =
-      let g = meets-easier (table-speed q _ (a .cut .holds .served .entry)) (f' .cut .0) (a' .cut .holds) in
-      omega (arith, g .0, a .cut .least (f' .cut .0 - k) (g .1))
+      least-grows (Meets q) (Meets q') k (f .cut .0) (f' .cut .0) (meets-higher (table-speed q _ (a .cut .holds .served .entry))) (a .cut) (a' .cut)
   deeper (Cut f) (NoCut fault) a a' = tt
   deeper (NoCut fault) (Cut f') a a' = tt
   deeper (NoCut fault) (NoCut fault') a a' = tt
@@ -46,4 +46,4 @@ module _ (q q' : Stretch) (h : Harder q q') (k : ℕ) (hk : q .draft + q .allowa
 -- with nothing more of draft and allowance, at the same cut
 pub meets-too : (q q' : Stretch) → Harder q q' → 2 ≤ q .speed → (d : ℕ) → Meets q' d → Meets q d
 meets-too q q' h from d m =
-    subst (Meets q) (let same : d - 0 ≡ d = omega arith in same) (meets-easier q q' h 0 (omega arith) from d m .1)
+    subst (Meets q) (let same : d - 0 ≡ d = omega arith in same) (meets-higher q q' h 0 (omega arith) from d m .1)

@@ -22,6 +22,10 @@ pub reading-most : (l : Lanes) → squatReading l ≤ 1
 reading-most One = omega arith
 reading-most Two = omega arith
 
+pub two-most : (l : Lanes) → squatReading l ≤ squatReading Two
+two-most One = omega arith
+two-most Two = omega arith
+
 -- a column has its number alone
 pub same-column : (a b : Column) → columnNumber a ≡ columnNumber b → a ≡ b
 same-column A A e = refl

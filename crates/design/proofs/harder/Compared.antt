@@ -9,14 +9,19 @@ use borrow.Author.Tests.{eqb-true, eqb-false, leb-true, not-true}
 use lib.Dec.{eqb}
 use Rattle.laws.specs.Choice.{_≤ᵇ_, _=ᵇ_}
 use Rattle.sheet.specs.Fields.{count}
-use Rattle.design.specs.Harder.{figureIn, Harder}
+use Rattle.design.specs.Harder.{figureIn, Raised}
 
--- the fields whose greater figure widens, and with them those whose greater figure deepens
+-- the fields whose greater figure widens
 abbrev pub widens : ℕ → Bool
 widens j = (j =ᵇ 4) || ((j =ᵇ 16) || ((j =ᵇ 17) || ((j =ᵇ 18) || (j =ᵇ 19))))
 
+-- those whose greater figure deepens by as many centimetres
+abbrev pub weighs : ℕ → Bool
+weighs j = (j =ᵇ 2) || (j =ᵇ 8)
+
+-- all whose greater figure makes a sheet harder, the lanes that are named among them
 abbrev pub hardens : ℕ → Bool
-hardens j = widens j || ((j =ᵇ 2) || ((j =ᵇ 3) || ((j =ᵇ 5) || ((j =ᵇ 7) || ((j =ᵇ 8) || (j =ᵇ 9))))))
+hardens j = widens j || (weighs j || ((j =ᵇ 3) || ((j =ᵇ 5) || ((j =ᵇ 7) || ((j =ᵇ 9) || (j =ᵇ 11))))))
 
 -- the number of a field, and of one that is not moved
 abbrev numbered : ℕ → Bool
@@ -34,7 +39,7 @@ both : (a b : Bool) → (a && b) ≡ true → (a ≡ true) × (b ≡ true)
 both true b e = (refl, e)
 both false b e = absurd (false≢true e)
 
-module _ (moved : ℕ → Bool) (k : ℕ) (easy hard : List ℕ) (is-moved : moved k ≡ true) (h : Harder k easy hard) where
+module _ (moved : ℕ → Bool) (k : ℕ) (easy hard : List ℕ) (is-moved : moved k ≡ true) (h : Raised k easy hard) where
   else-same : (j : ℕ) → numbered j ≡ true → j ≢ k → figureIn easy j ≡ figureIn hard j
   else-same j e other =
       let t = both _ _ e in

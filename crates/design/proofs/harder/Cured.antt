@@ -1,26 +1,24 @@
 -- What a greater figure can cure, by pairs that are computed: a longer ship 18, so demand 3 asks of the shorter that it passes it; a wider one 16 and
 -- 17, so demand 3 leaves both out.
 use mathlib.Core.Path.{_≡_, refl, sym, ap, _∙_}
-use mathlib.Core.Bool.{Bool, true, false, _||_}
-use mathlib.Core.List.{List, [], _∷_}
-use mathlib.Core.Logic.{_≢_, inl, inr}
-use Prim.Native.Nat.{ℕ, zero, suc, _*_, _≤_}
+use mathlib.Core.List.{List, []}
+use mathlib.Core.Logic.{inl, inr}
+use Prim.Native.Nat.{ℕ, _*_, _≤_}
 use native.Mathlib.Omega.{arith}
-use borrow.Author.Tests.{eqb-true}
-use lib.Dec.{T, lit<, ltb→lt, leb→le, eqb→eq}
-use lib.IntN.{ℤ, pos, negsuc}
-use Rattle.laws.specs.Choice.{_=ᵇ_, _<ᵇ_, _≤ᵇ_}
+use lib.Dec.{T, lit<, ltb→lt, leb→le}
+use lib.IntN.{ℤ}
+use Rattle.laws.specs.Choice.{_<ᵇ_, _≤ᵇ_}
 use Rattle.laws.specs.Every.{every}
 use Rattle.laws.specs.First.{firstFrom}
 use Rattle.laws.proofs.Every.{every-at}
 use Rattle.sheet.specs.Bits.{starts, joined, cut as group}
 use Rattle.sheet.specs.CaseS.{alteredS}
-use Rattle.sheet.specs.Fields.{count, fields, nth, fieldAt, width as fieldWidth, least, greatest, pairBad, badAt, firstBad}
+use Rattle.sheet.specs.Fields.{fields, nth, fieldAt, width as fieldWidth, least, greatest, pairBad, badAt, firstBad}
 use Rattle.sheet.specs.Packing.{size, Bytes, listed, numberOf, groupsOf, bytesOf}
 use Rattle.sheet.specs.Sheets.{levelSourceOf, sheetOf, sheetFrom, bedFigure, figuresOf, readGroups, readOf}
 use Rattle.design.specs.Design.{designOf}
-use Rattle.design.specs.Harder.{cut, width, figureIn, Harder, Sixteen, Seventeen, BySpeed, NoEasier, no-less, refused, cured, Passes, BothPass, AnyTwo, NeverEasier, NeverEasierBut, _never-lessens_}
-use Rattle.design.specs.Numbers.{codeOf, numbersOf}
+use Rattle.design.specs.Harder.{cut, width, Harder, Sixteen, Seventeen, BySpeed, NoEasier, no-less, refused, cured, Passes, BothPass, AnyTwo, NeverEasier, NeverEasierBut, _never-lessens_}
+use Rattle.design.specs.Numbers.{codeOf}
 use Rattle.design.specs.Refusals.{reasonNumber, sheetIn}
 use Rattle.design.specs.Starred.{writing}
 use Rattle.design.specs.declared.Figures.{Figures}
@@ -28,6 +26,7 @@ use Rattle.design.specs.declared.Reason.{Reason}
 use Rattle.design.specs.declared.Answer.{Answer}
 use Rattle.design.specs.declared.Answer.the-variants.{Answered, Refused}
 use Rattle.design.proofs.answers.Numbers.{refused-some}
+use Rattle.design.proofs.harder.Pairs.{else-equal, numberAt, code-is}
 use Rattle.design.proofs.Starred.{starred}
 
 bytes : (sheet : List ℕ) → T (every size (λ (k : ℕ). nth sheet k <ᵇ 256)) → Bytes sheet
@@ -35,38 +34,6 @@ bytes sheet t k h = ltb→lt (nth sheet k) 256 (every-at size (λ (j : ℕ). nth
 
 passes : (sheet : List ℕ) → T (3 * sheetIn sheet .beam ≤ᵇ sheetIn sheet .length) → Passes sheet
 passes sheet t under = omega (arith, leb→le (3 * sheetIn sheet .beam) (sheetIn sheet .length) t)
-
--- the figures of two sheets agree, but for one field
-abbrev agrees : ℕ → List ℕ → List ℕ → ℕ → Bool
-agrees k easy hard j = (j =ᵇ k) || (figureIn easy j =ᵇ figureIn hard j)
-
-else-equal : (k : ℕ) (easy hard : List ℕ) → T (every (suc count) (agrees k easy hard))
-    → (j : ℕ) → 1 ≤ j → j ≤ count → j ≢ k → figureIn easy j ≡ figureIn hard j
-else-equal k easy hard t j low high other = go (j =ᵇ k) refl (every-at (suc count) (agrees k easy hard) t j (omega arith))
-  where
-    go : (b : Bool) → (j =ᵇ k) ≡ b → T (b || (figureIn easy j =ᵇ figureIn hard j)) → figureIn easy j ≡ figureIn hard j
-    go true e agree = absurd (other (eqb-true j k e))
-    go false e agree = eqb→eq (figureIn easy j) (figureIn hard j) agree
-
--- the first of the numbers is the code
-abbrev first : List ℤ → ℕ
-first [] = 0
-first (pos n ∷ rest) = n
-first (negsuc n ∷ rest) = 0
-
-code-first : (a : Answer) → first (numbersOf a) ≡ codeOf a
-unfolding numbersOf
-code-first (Answered f) = refl
-code-first (Refused r) = refl
-
--- a starred case by how many stand before it
-abbrev case : ℕ → List (List ℤ) → List ℤ
-case k [] = []
-case zero (numbers ∷ rest) = numbers
-case (suc k) (numbers ∷ rest) = case k rest
-
-abbrev code-of-case : ℕ → List (List ℤ) → ℕ
-code-of-case k cases = first (case k cases)
 
 -- a refusal that is not left out, and then an answer, is easier
 module _ (LeftOut : Reason → Type 0) (figure : Figures → ℤ) (number : ℕ) (some : 1 ≤ number) (kept : (r : Reason) → reasonNumber r ≡ number → ¬ LeftOut r) where
@@ -77,24 +44,24 @@ module _ (LeftOut : Reason → Type 0) (figure : Figures → ℤ) (number : ℕ)
 
 -- S with a beam of 40 m: refused by 18 at a length of 119.99 m, answered at 120 m
 abbrev shorter : List ℕ
-shorter = writing (alteredS 11999 4000 8 500 30 0 1 0 0 0)
+shorter = writing (alteredS 1000 11999 4000 8 500 30 0 1 0 0 0)
 
 abbrev longer : List ℕ
-longer = writing (alteredS 12000 4000 8 500 30 0 1 0 0 0)
+longer = writing (alteredS 1000 12000 4000 8 500 30 0 1 0 0 0)
 
 -- S with a slope of 4 and a bed of 1 m: too fast at a beam of 12 m, answered at 14 m
 abbrev narrow : List ℕ
-narrow = writing (alteredS 20000 1200 8 100 30 0 1 0 0 4)
+narrow = writing (alteredS 1000 20000 1200 8 100 30 0 1 0 0 4)
 
 abbrev wide : List ℕ
-wide = writing (alteredS 20000 1400 8 100 30 0 1 0 0 4)
+wide = writing (alteredS 1000 20000 1400 8 100 30 0 1 0 0 4)
 
 -- with a bed of 2 m: narrower than the table at a beam of 10 m, answered at 12 m
 abbrev outside : List ℕ
-outside = writing (alteredS 20000 1000 8 200 30 0 1 0 0 4)
+outside = writing (alteredS 1000 20000 1000 8 200 30 0 1 0 0 4)
 
 abbrev inside : List ℕ
-inside = writing (alteredS 20000 1200 8 200 30 0 1 0 0 4)
+inside = writing (alteredS 1000 20000 1200 8 200 30 0 1 0 0 4)
 
 record Pair (k : ℕ) (easy hard : List ℕ) : Type 0 where
   easy-bytes : Bytes easy
@@ -106,7 +73,7 @@ unfolding starts joined group firstFrom fields fieldAt fieldWidth least greatest
 longer-pair = record {
   easy-bytes = bytes shorter tt;
   hard-bytes = bytes longer tt;
-  harder = record { easy-read = refl; hard-read = refl; greater = lit< tt; else-equal = else-equal 3 shorter longer tt; same-lanes = refl };
+  harder = record { raised = record { easy-read = refl; hard-read = refl; greater = lit< tt; else-equal = else-equal 3 shorter longer tt }; same-lanes = refl };
 }
 
 wide-pair : Pair 4 narrow wide
@@ -114,7 +81,7 @@ unfolding starts joined group firstFrom fields fieldAt fieldWidth least greatest
 wide-pair = record {
   easy-bytes = bytes narrow tt;
   hard-bytes = bytes wide tt;
-  harder = record { easy-read = refl; hard-read = refl; greater = lit< tt; else-equal = else-equal 4 narrow wide tt; same-lanes = refl };
+  harder = record { raised = record { easy-read = refl; hard-read = refl; greater = lit< tt; else-equal = else-equal 4 narrow wide tt }; same-lanes = refl };
 }
 
 inside-pair : Pair 4 outside inside
@@ -122,7 +89,7 @@ unfolding starts joined group firstFrom fields fieldAt fieldWidth least greatest
 inside-pair = record {
   easy-bytes = bytes outside tt;
   hard-bytes = bytes inside tt;
-  harder = record { easy-read = refl; hard-read = refl; greater = lit< tt; else-equal = else-equal 4 outside inside tt; same-lanes = refl };
+  harder = record { raised = record { easy-read = refl; hard-read = refl; greater = lit< tt; else-equal = else-equal 4 outside inside tt }; same-lanes = refl };
 }
 
 both-pass : BothPass narrow wide × BothPass outside inside
@@ -132,7 +99,7 @@ both-pass = ((passes narrow tt, passes wide tt), (passes outside tt, passes insi
 pub longer-cures-18 : ¬ NeverEasier AnyTwo (3 never-lessens cut)
 longer-cures-18 never-easier =
     easier BySpeed cut 18 (omega arith) (λ r e left. go r e left) (designOf shorter []) (designOf longer [])
-    (sym (code-first _) ∙ ap (code-of-case 12) (starred [])) (sym (code-first _) ∙ ap (code-of-case 13) (starred []))
+    (sym (code-is _) ∙ ap (numberAt 12 0) (starred [])) (sym (code-is _) ∙ ap (numberAt 13 0) (starred []))
     (never-easier shorter longer [] (longer-pair .easy-bytes) (longer-pair .hard-bytes) (longer-pair .harder) tt)
   where
     go : (r : Reason) → reasonNumber r ≡ 18 → ¬ BySpeed r
@@ -142,11 +109,11 @@ longer-cures-18 never-easier =
 pub wider-cures-17 : ¬ NeverEasierBut Sixteen BothPass (4 never-lessens width)
 wider-cures-17 never-easier =
     easier Sixteen width 17 (omega arith) (λ r e sixteen. omega arith) (designOf narrow []) (designOf wide [])
-    (sym (code-first _) ∙ ap (code-of-case 18) (starred [])) (sym (code-first _) ∙ ap (code-of-case 19) (starred []))
+    (sym (code-is _) ∙ ap (numberAt 18 0) (starred [])) (sym (code-is _) ∙ ap (numberAt 19 0) (starred []))
     (never-easier narrow wide [] (wide-pair .easy-bytes) (wide-pair .hard-bytes) (wide-pair .harder) (both-pass .0))
 
 pub wider-cures-16 : ¬ NeverEasierBut Seventeen BothPass (4 never-lessens width)
 wider-cures-16 never-easier =
     easier Seventeen width 16 (omega arith) (λ r e seventeen. omega arith) (designOf outside []) (designOf inside [])
-    (sym (code-first _) ∙ ap (code-of-case 21) (starred [])) (sym (code-first _) ∙ ap (code-of-case 20) (starred []))
+    (sym (code-is _) ∙ ap (numberAt 21 0) (starred [])) (sym (code-is _) ∙ ap (numberAt 20 0) (starred []))
     (never-easier outside inside [] (inside-pair .easy-bytes) (inside-pair .hard-bytes) (inside-pair .harder) (both-pass .1))

@@ -1,17 +1,19 @@
 -- A greater figure never makes a design easier: of the fields that deepen it never lessens the cut, of those that widen never the width. Only a
 -- longer ship can pass 18 where the other does not, so of the shorter it is asked to pass.
-use mathlib.Core.Path.{_≡_, refl}
+use mathlib.Core.Path.{_≡_, refl, ap}
 use mathlib.Core.Bool.{Bool, true, false}
 use mathlib.Core.List.{List}
 use mathlib.Core.Logic.{_≢_}
-use Prim.Native.Nat.{ℕ}
+use Prim.Native.Nat.{ℕ, _≤_}
 use native.Mathlib.Omega.{arith}
 use borrow.Author.Tests.{eqb-true, eqb-false}
 use Rattle.laws.specs.Choice.{_=ᵇ_}
 use Rattle.laws.specs.Each.{Each, _&_}
 use Rattle.laws.proofs.Each.{each-implied}
 use Rattle.sheet.specs.Sheets.{sheetOf}
-use Rattle.design.specs.Design.{designOf}
+use Rattle.depth.specs.Squat.{squatReading}
+use Rattle.design.specs.Design.{lanesFor, designOf}
+use Rattle.design.specs.Refusals.{sheetIn}
 use Rattle.design.specs.Harder.{cut, width, hardenings, Hardening, Harder, Passes, BothPass, EasierPasses, AnyTwo, NeverEasier, _never-lessens_}
 use Rattle.design.proofs.rows.Exactly.{design-ended, design-exactly}
 use Rattle.design.proofs.harder.Compared.{widens, hardens, compared}
@@ -29,23 +31,26 @@ passes-too k is easy hard h shorter passes = go (k =ᵇ 3) refl
     go : (b : Bool) → (k =ᵇ 3) ≡ b → Passes easy
     go true longer = shorter (eqb-true k 3 longer)
     go false other =
-        let length = h .else-equal 3 (omega arith) (omega arith) (λ three. eqb-false k 3 other (omega arith)) in
-        let beam = compared hardens k easy hard is h .rises 4 refl in
+        let length = h .raised .else-equal 3 (omega arith) (omega arith) (λ three. eqb-false k 3 other (omega arith)) in
+        let beam = compared hardens k easy hard is (h .raised) .rises 4 refl in
         λ under. passes (omega arith)
+
+same-reading : {k : ℕ} {easy hard : List ℕ} → Harder k easy hard → squatReading (lanesFor (sheetIn easy)) ≤ squatReading (lanesFor (sheetIn hard))
+same-reading h = let same = ap squatReading (h .same-lanes) in omega arith
 
 deepens : (k : ℕ) → hardens k ≡ true → NeverEasier (ShorterPasses k) (k never-lessens cut)
 deepens k is easy hard table small small' h shorter =
-    let c = compared hardens k easy hard is h in
-    no-easier easy hard table (h .easy-read) (h .same-lanes) c small (passes-too k is easy hard h shorter) cut
-    (cut-rises easy hard table (h .easy-read) (h .same-lanes) c)
+    let c = compared hardens k easy hard is (h .raised) in
+    no-easier easy hard table (h .raised .easy-read) (same-reading h) c small (passes-too k is easy hard h shorter) cut
+    (cut-rises easy hard table (h .raised .easy-read) (same-reading h) c)
     (designOf easy table) (designOf hard table) (design-exactly easy table small) (design-ended easy table small) (design-ended hard table small')
 
 broadens : (k : ℕ) → widens k ≡ true → hardens k ≡ true → NeverEasier (ShorterPasses k) (k never-lessens width)
 broadens k is too easy hard table small small' h shorter =
-    let c = compared hardens k easy hard too h in
-    no-easier easy hard table (h .easy-read) (h .same-lanes) c small (passes-too k too easy hard h shorter) width
-    (λ f g there are are'. width-rises easy hard table (h .same-lanes) (compared widens k easy hard is h)
-    (level-in-same easy hard table (h .easy-read) (h .same-lanes) c) f g are are' there)
+    let c = compared hardens k easy hard too (h .raised) in
+    no-easier easy hard table (h .raised .easy-read) (same-reading h) c small (passes-too k too easy hard h shorter) width
+    (λ f g there are are'. width-rises easy hard table (h .same-lanes) (compared widens k easy hard is (h .raised))
+    (level-in-same easy hard table (h .raised .easy-read) (same-reading h) c) f g are are' there)
     (designOf easy table) (designOf hard table) (design-exactly easy table small) (design-ended easy table small) (design-ended hard table small')
 
 abbrev Shown : Hardening → Type 0

@@ -3,7 +3,7 @@
 use mathlib.Core.Path.{_≡_, refl, sym, ap, ap₂, subst}
 use mathlib.Core.List.{List}
 use mathlib.Core.Logic.{_⊎_, inl, inr}
-use Prim.Native.Nat.{ℕ, zero, suc, _≤_}
+use Prim.Native.Nat.{ℕ, zero, suc, _+_, _≤_}
 use native.Mathlib.Omega.{arith}
 use lib.IntN.{ℤ, pos}
 use lib.Dec.{le→leb}
@@ -30,7 +30,7 @@ use Rattle.depth.specs.Harder.{Harder as HarderDepth}
 use Rattle.depth.specs.Reasons.{FirstUnusable}
 use Rattle.depth.specs.declared.DepthFault.{DepthFault}
 use Rattle.depth.specs.declared.DepthFault.the-variants.{NoSquatEntry, SiltOver, CutOver}
-use Rattle.depth.proofs.Promises.{meets-the-easier, unusable-none}
+use Rattle.depth.proofs.Promises.{meets-higher, meets-the-easier, unusable-none}
 use Rattle.width.specs.Refusals.{TightBend, NoWidthEntry}
 use Rattle.width.proofs.Refusals.{tight-too, missing-too}
 use Rattle.design.specs.Design.{lanesFor}
@@ -47,7 +47,7 @@ use Rattle.design.proofs.rows.Exactly.{Ended}
 use Rattle.design.proofs.harder.Compared.{hardens, Compared}
 
 -- the rows, and what the two depths are worked from
-module _ (easy hard table : List ℕ) (read : readOf easy ≡ Good (sheetIn easy)) (lanes : lanesFor (sheetIn easy) ≡ lanesFor (sheetIn hard))
+module _ (easy hard table : List ℕ) (read : readOf easy ≡ Good (sheetIn easy)) (lanes : squatReading (lanesFor (sheetIn easy)) ≤ squatReading (lanesFor (sheetIn hard)))
     (c : Compared hardens easy hard) where
   abbrev s : Sheet
   s = sheetIn easy
@@ -90,7 +90,7 @@ module _ (easy hard table : List ℕ) (read : readOf easy ≡ Good (sheetIn easy
         silting = c .rises 9 refl;
         interval = le-of-eq (ap intervalOf (c .same 10 refl));
         speed = c .rises 5 refl;
-        lanes = le-of-eq (ap squatReading lanes);
+        lanes = lanes;
         natural = sym (ap₂ (λ bed level. naturalDepth bed level .0) (ap (λ (cm : ℕ). belowChart (pos cm)) (c .same 6 refl)) level-in-same);
       }
     where
@@ -160,6 +160,13 @@ module _ (easy hard table : List ℕ) (read : readOf easy ≡ Good (sheetIn easy
         cured (by-speed r (speed-left (reasonNumber r) exact
         (carried (before 16 (rows easy table)) (before 16 (rows hard table)) (rows-carried (g .cut .0) (u .1 .cut .holds)) (none-before 16 (rows hard table) (u .0)))))
 
+  -- the cut, by one argument: at least as many centimetres as draft and wave allowance together are greater by
+  pub cut-grows : (cm : ℕ) → s .draft + s .allowance + cm ≤ s' .draft + s' .allowance
+      → (f g : Figures) → FiguresAre s (levelIn s table) f → FiguresAre s' (levelIn s' table) g → f .cut .0 + cm ≤ g .cut .0
+  cut-grows cm more f g are are' =
+      least-grows _ _ cm (f .cut .0) (g .cut .0) (meets-higher _ _ depth-harder cm more speed-read) (are .cut) (are' .cut)
+
   pub cut-rises : (f g : Figures) → ¬ EntryMissing s' → FiguresAre s (levelIn s table) f → FiguresAre s' (levelIn s' table) g → (cut f ≤ℤ cut g)
+  unfolding sheetOf
   cut-rises f g there are are' =
-      record { le = le→leb (f .cut .0) (g .cut .0) (least-grows _ _ (f .cut .0) (g .cut .0) meets-too (are .cut) (are' .cut)) }
+      record { le = le→leb (f .cut .0) (g .cut .0) (let grows = cut-grows 0 (omega (arith, c .rises 2 refl, c .rises 8 refl)) f g are are' in omega arith) }

@@ -1,0 +1,103 @@
+-- By how much a greater draft, a greater wave allowance and a second lane deepen the cut: each is an instance of the one comparison of two cuts.
+use mathlib.Core.Path.{_≡_, refl, ap, _∙_}
+use mathlib.Core.Bool.{true}
+use mathlib.Core.List.{List}
+use mathlib.Core.Logic.{inl, inr}
+use Prim.Native.Nat.{ℕ, _+_, _≤_}
+use native.Mathlib.Omega.{arith}
+use Rattle.laws.specs.Each.{Each, _&_}
+use Rattle.sheet.specs.Packing.{Bytes}
+use Rattle.sheet.specs.Sheets.{sheetOf}
+use Rattle.lanes.specs.Lanes.{lanesOf}
+use Rattle.lanes.specs.declared.Lanes.the-variants.{Two}
+use Rattle.lanes.proofs.Promises.{two-named}
+use Rattle.depth.specs.Squat.{squatReading}
+use Rattle.depth.proofs.Promises.{two-lanes-read-most}
+use Rattle.design.specs.Design.{lanesFor, designOf}
+use Rattle.design.specs.Refusals.{sheetIn, levelIn}
+use Rattle.design.specs.Answers.{FiguresAre}
+use Rattle.design.specs.Harder.{cut, Raised, Passes, BySpeed, NoEasier}
+use Rattle.design.specs.Growth.{Deeper, increase, CentimetreForCentimetre, loads, NamesTwo}
+use Rattle.design.specs.declared.Figures.{Figures}
+use Rattle.design.specs.declared.Answer.{Answer}
+use Rattle.design.specs.declared.Answer.the-variants.{Answered, Refused}
+use Rattle.design.proofs.rows.Exactly.{Ended, design-ended, design-exactly}
+use Rattle.design.proofs.harder.Compared.{weighs, hardens, compared}
+use Rattle.design.proofs.harder.Rows.{no-easier, cut-grows, cut-rises}
+
+-- what two answers say of each other, where both are answered and the cuts are known to be that far apart
+both-answered : (easy hard table : List ℕ) (cm : ℕ)
+    → ((f g : Figures) → FiguresAre (sheetIn easy) (levelIn (sheetIn easy) table) f → FiguresAre (sheetIn hard) (levelIn (sheetIn hard) table) g → f .cut .0 + cm ≤ g .cut .0)
+    → (a b : Answer) → Ended easy table a → Ended hard table b → Deeper cm a b
+both-answered easy hard table cm grows (Answered f) (Answered g) (inl t) (inl u) = grows f g (t .1) (u .1)
+both-answered easy hard table cm grows (Answered f) (Answered g) (inr t) u = absurd (t .1)
+both-answered easy hard table cm grows (Answered f) (Answered g) (inl t) (inr u) = absurd (u .1)
+both-answered easy hard table cm grows (Answered f) (Refused r) t u = tt
+both-answered easy hard table cm grows (Refused r) (Answered g) t u = tt
+both-answered easy hard table cm grows (Refused r) (Refused r') t u = tt
+
+-- draft and wave allowance: neither is of the lane rule
+module _ (k : ℕ) (is : weighs k ≡ true) (too : hardens k ≡ true) (easy hard : List ℕ) (h : Raised k easy hard) where
+  lanes-same : lanesFor (sheetIn easy) ≡ lanesFor (sheetIn hard)
+  unfolding sheetOf
+  lanes-same =
+      let c = compared weighs k easy hard is h in
+      let named = c .same 11 refl in
+      let channel = c .same 12 refl in
+      let ships = c .same 13 refl in
+      let speed = c .same 5 refl in
+      cc
+
+  deepens-by : (cm : ℕ) → sheetIn easy .draft + sheetIn easy .allowance + cm ≤ sheetIn hard .draft + sheetIn hard .allowance
+      → (table : List ℕ) → Bytes easy → Bytes hard → Deeper cm (designOf easy table) (designOf hard table)
+  deepens-by cm more table small small' =
+      both-answered easy hard table cm
+      (cut-grows easy hard table (h .easy-read) (let same = ap squatReading lanes-same in omega arith) (compared hardens k easy hard too h) cm more)
+      (designOf easy table) (designOf hard table) (design-ended easy table small) (design-ended hard table small')
+
+draft-deepens : CentimetreForCentimetre 2
+unfolding sheetOf
+draft-deepens easy hard table small small' h =
+    deepens-by 2 refl refl easy hard h (increase 2 easy hard)
+    (omega (arith, compared hardens 2 easy hard refl h .rises 2 refl, compared weighs 2 easy hard refl h .rises 8 refl)) table small small'
+
+allowance-deepens : CentimetreForCentimetre 8
+unfolding sheetOf
+allowance-deepens easy hard table small small' h =
+    deepens-by 8 refl refl easy hard h (increase 8 easy hard)
+    (omega (arith, compared hardens 8 easy hard refl h .rises 2 refl, compared weighs 8 easy hard refl h .rises 8 refl)) table small small'
+
+pub each-centimetre : Each CentimetreForCentimetre loads
+each-centimetre = draft-deepens & allowance-deepens & tt
+
+-- two lanes that are named read the greatest squat
+module _ (fewer two table : List ℕ) (small : Bytes fewer) (small' : Bytes two) (h : NamesTwo fewer two) where
+  comes-to-two : lanesFor (sheetIn two) ≡ Two
+  unfolding sheetOf
+  comes-to-two =
+      ap (λ (named : ℕ). lanesOf named (sheetIn two .channel) (sheetIn two .ships) (sheetIn two .speed)) (h .named) ∙ two-named _ _ _
+
+  reads-no-less : squatReading (lanesFor (sheetIn fewer)) ≤ squatReading (lanesFor (sheetIn two))
+  reads-no-less = rw comes-to-two (two-lanes-read-most (lanesFor (sheetIn fewer)))
+
+  passes-too : Passes two → Passes fewer
+  unfolding sheetOf
+  passes-too passes under =
+      let length = h .raised .else-equal 3 (omega arith) (omega arith) (λ e. omega arith) in
+      let beam = h .raised .else-equal 4 (omega arith) (omega arith) (λ e. omega arith) in
+      passes (omega arith)
+
+  pub two-never-shallower : Deeper 0 (designOf fewer table) (designOf two table)
+  unfolding sheetOf
+  two-never-shallower =
+      let c = compared hardens 11 fewer two refl (h .raised) in
+      both-answered fewer two table 0
+      (cut-grows fewer two table (h .raised .easy-read) reads-no-less c 0 (omega (arith, c .rises 2 refl, c .rises 8 refl)))
+      (designOf fewer table) (designOf two table) (design-ended fewer table small) (design-ended two table small')
+
+  pub two-never-easier : NoEasier BySpeed cut (designOf fewer table) (designOf two table)
+  two-never-easier =
+      let c = compared hardens 11 fewer two refl (h .raised) in
+      no-easier fewer two table (h .raised .easy-read) reads-no-less c small passes-too cut
+      (cut-rises fewer two table (h .raised .easy-read) reads-no-less c)
+      (designOf fewer table) (designOf two table) (design-exactly fewer table small) (design-ended fewer table small) (design-ended two table small')
