@@ -97,17 +97,19 @@ def stop_all(*_):
 STEP_LOST = re.compile("no occurrence of the path|has no `Need-|has no field")
 
 
-def first_error(output, crate):
-    """The first error: its file and line, and its words, which the prover may break over lines that begin with spaces. That a citing
-    proof is not admitted is no reason."""
+def errors(output, crate):
+    """The errors in their order, each by its file, its line and its words, which the prover may break over lines that begin with spaces;
+    behind them what it says of the code. That a citing proof is not admitted is no reason."""
     output = re.sub(r"\n +", " ", output)
-    found = re.findall(r"^(\S*?:\d+):\d+: (error(?!.*was not admitted).*)$", output, re.M)
-    found = found or re.findall(r"^note: (\S*?:\d+):\d+: (.*)$", output, re.M)
-    if not found:
-        return " ".join(output.split()[-12:])
-    return found[0][0].split(f"crates/{crate}/")[-1] + ": " + re.sub(r"^error: ", "", found[0][1])[:300]
+    found = re.findall(r"^(\S*?):(\d+):\d+: (error(?!.*was not admitted).*)$", output, re.M)
+    found += re.findall(r"^note: (\S*?):(\d+):\d+: (.*)$", output, re.M)
+    return [(file.split(f"crates/{crate}/")[-1], int(line), re.sub("^error: ", "", words)[:300]) for file, line, words in found]
 
 
-def refusal(output, crate):
-    """By the prover, or before it by the types or the form."""
-    return ("prover" if "logic=not-proved" in output else "types"), first_error(output, crate)
+def refusal(output, crate, own=lambda file, line: True):
+    """By the prover, or before it by the types or the form; and the first error, of those in the place that is asked about."""
+    kind = "prover" if "logic=not-proved" in output else "types"
+    for file, line, words in errors(output, crate):
+        if own(file, line):
+            return kind, f"{file}:{line}: {words}"
+    return kind, " ".join(output.split()[-12:])

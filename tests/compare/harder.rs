@@ -1,6 +1,7 @@
 //! Demand 3, of pairs of sheets that differ in one figure: the one with the greater figure is no easier to design, at given
 //! levels and over tables. A longer ship can cure 18, so two lengths are compared only where the shorter passes it. A deeper or
-//! wider cut can cure 16 and 17, so a sheet that one of them refuses may be answered with the greater figure.
+//! wider cut can cure 16 and 17, so a sheet that one of them refuses may be answered with the greater figure. With draft and
+//! wave allowance the cut grows by as many centimetres or more, and two lanes that are named never make it shallower.
 
 use crate::gauges::shown;
 use crate::handles::{Handle, Handles, NUMBERS};
@@ -27,15 +28,18 @@ const PART: usize = RETURNED + 96;
 const CUT: usize = 5;
 const WIDTH: usize = 7;
 
-/// The field that has the length.
+/// The fields that have draft, length, wave allowance and lanes.
+const DRAFT: usize = 2;
 const LENGTH: usize = 3;
+const ALLOWANCE: usize = 8;
+const LANES: usize = 11;
 
 /// Each figure that makes a sheet harder, by its field's number, and what it never lessens.
-const HARDENINGS: [(usize, usize); 11] = [
-    (2, CUT),
+const HARDENINGS: [(usize, usize); 12] = [
+    (DRAFT, CUT),
     (LENGTH, CUT),
     (5, CUT),
-    (8, CUT),
+    (ALLOWANCE, CUT),
     (9, CUT),
     (7, CUT),
     (4, WIDTH),
@@ -43,19 +47,25 @@ const HARDENINGS: [(usize, usize); 11] = [
     (17, WIDTH),
     (18, WIDTH),
     (19, WIDTH),
+    (LANES, CUT),
 ];
 
+/// Two sheets, the figure of the design that is compared, and by how much it grows at least.
 struct Pair {
     easy: [u8; BYTES],
     hard: [u8; BYTES],
     kept: usize,
+    least: i64,
 }
 
-/// What a pair showed: both answered with a figure that rose, both with the same, refused for the harder alone, both
-/// refused, or answered for the harder alone where the easier has 16 or 17.
+/// What a pair showed: both answered, with a cut that grew by just as much as draft or allowance or by more, or of the
+/// other figures with one that rose or stayed; refused for the harder alone; both refused; or answered for the harder
+/// alone where the easier has 16 or 17.
 #[derive(Debug, Default)]
 struct Seen {
     rose: u64,
+    as_much: u64,
+    more: u64,
     stayed: u64,
     lost: u64,
     refused: u64,
@@ -81,23 +91,38 @@ fn lanes(figures: &[i64; FIELDS]) -> i64 {
     width::lanes(&of(figures))
 }
 
-/// The pair of a field, where its figure can be greater, the lanes stay, and of two lengths the shorter passes 18.
+/// A greater figure of a field: the next, or any; of the lanes the greatest, which names two.
+fn greater(rng: &mut Random, figure: i64, number: usize) -> i64 {
+    let greatest = TABLE[number - 1].greatest;
+    let anywhere = rng.between(figure + 1, greatest);
+    match number {
+        LANES => greatest,
+        _ => rng.pick(&[figure + 1, anywhere]),
+    }
+}
+
+/// The pair of a field, where its figure can be greater, the lanes stay unless they are named, and of two lengths the
+/// shorter passes 18.
 fn raised(rng: &mut Random, figures: &[i64; FIELDS], number: usize, kept: usize) -> Option<Pair> {
-    let row = &TABLE[number - 1];
     let figure = figures[number - 1];
-    if figure == row.greatest || number == LENGTH && design::under_three_beams(&of(figures)) {
+    let short = number == LENGTH && design::under_three_beams(&of(figures));
+    if figure == TABLE[number - 1].greatest || short {
         return None;
     }
     let mut harder = *figures;
-    let anywhere = rng.between(figure + 1, row.greatest);
-    harder[number - 1] = rng.pick(&[figure + 1, anywhere]);
-    if lanes(figures) != lanes(&harder) {
+    harder[number - 1] = greater(rng, figure, number);
+    if number != LANES && lanes(figures) != lanes(&harder) {
         return None;
     }
+    let least = match number {
+        DRAFT | ALLOWANCE => harder[number - 1] - figure,
+        _ => 0,
+    };
     Some(Pair {
         easy: sheet::pack(figures),
         hard: sheet::pack(&harder),
         kept,
+        least,
     })
 }
 
@@ -135,12 +160,22 @@ fn designed(handles: &mut Handles, table: &[u32], pairs: &[Pair]) -> Vec<Numbers
 }
 
 impl Seen {
+    /// Whether two answers are as far apart as they must be.
+    fn grown(&mut self, least: i64, growth: i64) -> bool {
+        match growth - least {
+            0 if least > 0 => self.as_much += 1,
+            1.. if least > 0 => self.more += 1,
+            0 => self.stayed += 1,
+            1.. => self.rose += 1,
+            _ => return false,
+        }
+        true
+    }
+
     /// Whether the harder sheet is no easier to design.
-    fn judge(&mut self, kept: usize, easy: &Numbers, hard: &Numbers) -> bool {
+    fn judge(&mut self, pair: &Pair, easy: &Numbers, hard: &Numbers) -> bool {
         match (easy[0], hard[0]) {
-            (0, 0) if easy[kept] < hard[kept] => self.rose += 1,
-            (0, 0) if easy[kept] == hard[kept] => self.stayed += 1,
-            (0, 0) => return false,
+            (0, 0) => return self.grown(pair.least, hard[pair.kept] - easy[pair.kept]),
             (16, 0) => self.cured_16 += 1,
             (17, 0) => self.cured_17 += 1,
             (_, 0) => return false,
@@ -152,7 +187,14 @@ impl Seen {
 
     /// Each kind of pair more than a hundred times, and each cure, which is rarer, more than three times.
     fn enough(&self) -> bool {
-        let kinds = [self.rose, self.stayed, self.lost, self.refused];
+        let kinds = [
+            self.rose,
+            self.as_much,
+            self.more,
+            self.stayed,
+            self.lost,
+            self.refused,
+        ];
         let cures = [self.cured_16, self.cured_17];
         kinds.iter().all(|&pairs| pairs > 100) && cures.iter().all(|&pairs| pairs > 3)
     }
@@ -167,7 +209,7 @@ fn judge_all(
 ) {
     assert_eq!(designs.len(), 2 * pairs.len(), "two designs a pair");
     for (pair, designs) in pairs.iter().zip(designs.chunks_exact(2)) {
-        let no_easier = seen.judge(pair.kept, &designs[0], &designs[1]);
+        let no_easier = seen.judge(pair, &designs[0], &designs[1]);
         report.case(no_easier, true, || {
             let (easy, hard) = (hex(&pair.easy), hex(&pair.hard));
             format!("sheets {easy} and {hard}, {}: {designs:?}", level())

@@ -189,6 +189,21 @@ fn starred(program: &impl Program, tally: &mut Tally) {
     tally.check("S, length 12,000, beam 4,000", figures, (1_150, 19_200));
 }
 
+/// By how much the cut grows with a centimetre of draft, a centimetre of wave allowance and a second lane: by as much as it
+/// must, and by more.
+fn growths(program: &impl Program, tally: &mut Tally) {
+    let cut = |changes: &[(usize, i64)]| answer(program, changes).cut;
+    let drafts = [999, 1_000, 1_001].map(|draft| cut(&[(2, draft)]));
+    tally.check("S, drafts 999 to 1,001", drafts, [1_169, 1_170, 1_172]);
+    let waves = [30, 31].map(|z2| cut(&[(8, z2)]));
+    tally.check("S, z2 30 and 31", waves, [1_170, 1_171]);
+    let waves = [31, 32].map(|z2| cut(&[(6, 578), (8, z2)]));
+    tally.check("S, bed 578, z2 31 and 32", waves, [1_156, 1_172]);
+    let lanes = |speed| [1, 2].map(|lanes| cut(&[(5, speed), (11, lanes)]));
+    tally.check("S, speed 2, one lane and two", lanes(2), [1_130, 1_130]);
+    tally.check("S, one lane and two", lanes(8), [1_170, 1_210]);
+}
+
 /// "S, lanes 0", and the levels of two records.
 fn lanes_and_levels(program: &impl Program, tally: &mut Tally) {
     let by_traffic = |ships| answer(program, &[(11, 0), (13, ships)]).lanes;
@@ -697,6 +712,7 @@ fn below_zero(tally: &mut Tally) {
 pub fn right_in(name: &str, program: &impl Program) -> bool {
     let mut tally = Tally::default();
     starred(program, &mut tally);
+    growths(program, &mut tally);
     lanes_and_levels(program, &mut tally);
     bad_bytes(program, &mut tally);
     slope_bits(program, &mut tally);

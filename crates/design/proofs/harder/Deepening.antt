@@ -16,7 +16,7 @@ use Rattle.depth.proofs.Promises.{two-lanes-read-most}
 use Rattle.design.specs.Design.{lanesFor, designOf}
 use Rattle.design.specs.Refusals.{sheetIn, levelIn}
 use Rattle.design.specs.Answers.{FiguresAre}
-use Rattle.design.specs.Harder.{cut, Raised, Passes, BySpeed, NoEasier}
+use Rattle.design.specs.Harder.{cut, figureIn, Raised, Passes, BySpeed, NoEasier}
 use Rattle.design.specs.Growth.{Deeper, increase, CentimetreForCentimetre, loads, NamesTwo}
 use Rattle.design.specs.declared.Figures.{Figures}
 use Rattle.design.specs.declared.Answer.{Answer}
@@ -36,11 +36,13 @@ both-answered easy hard table cm grows (Answered f) (Refused r) t u = tt
 both-answered easy hard table cm grows (Refused r) (Answered g) t u = tt
 both-answered easy hard table cm grows (Refused r) (Refused r') t u = tt
 
--- draft and wave allowance: neither is of the lane rule
-module _ (k : ℕ) (is : weighs k ≡ true) (too : hardens k ≡ true) (easy hard : List ℕ) (h : Raised k easy hard) where
-  lanes-same : lanesFor (sheetIn easy) ≡ lanesFor (sheetIn hard)
+-- draft and wave allowance: each is a summand of the need, and neither is of the lane rule
+module _ (k : ℕ) (is : weighs k ≡ true) (too : hardens k ≡ true)
+    (summand : (easy hard : List ℕ) → figureIn easy 2 ≤ figureIn hard 2 → figureIn easy 8 ≤ figureIn hard 8
+    → figureIn easy 2 + figureIn easy 8 + increase k easy hard ≤ figureIn hard 2 + figureIn hard 8) where
+  lanes-same : (easy hard : List ℕ) → Raised k easy hard → lanesFor (sheetIn easy) ≡ lanesFor (sheetIn hard)
   unfolding sheetOf
-  lanes-same =
+  lanes-same easy hard h =
       let c = compared weighs k easy hard is h in
       let named = c .same 11 refl in
       let channel = c .same 12 refl in
@@ -48,27 +50,17 @@ module _ (k : ℕ) (is : weighs k ≡ true) (too : hardens k ≡ true) (easy har
       let speed = c .same 5 refl in
       cc
 
-  deepens-by : (cm : ℕ) → sheetIn easy .draft + sheetIn easy .allowance + cm ≤ sheetIn hard .draft + sheetIn hard .allowance
-      → (table : List ℕ) → Bytes easy → Bytes hard → Deeper cm (designOf easy table) (designOf hard table)
-  deepens-by cm more table small small' =
-      both-answered easy hard table cm
-      (cut-grows easy hard table (h .easy-read) (let same = ap squatReading lanes-same in omega arith) (compared hardens k easy hard too h) cm more)
+  deepens : CentimetreForCentimetre k
+  unfolding sheetOf
+  deepens easy hard table small small' h =
+      let c = compared hardens k easy hard too h in
+      let reading = ap squatReading (lanes-same easy hard h) in
+      both-answered easy hard table (increase k easy hard)
+      (cut-grows easy hard table (h .easy-read) (omega arith) c (increase k easy hard) (summand easy hard (c .rises 2 refl) (c .rises 8 refl)))
       (designOf easy table) (designOf hard table) (design-ended easy table small) (design-ended hard table small')
 
-draft-deepens : CentimetreForCentimetre 2
-unfolding sheetOf
-draft-deepens easy hard table small small' h =
-    deepens-by 2 refl refl easy hard h (increase 2 easy hard)
-    (omega (arith, compared hardens 2 easy hard refl h .rises 2 refl, compared weighs 2 easy hard refl h .rises 8 refl)) table small small'
-
-allowance-deepens : CentimetreForCentimetre 8
-unfolding sheetOf
-allowance-deepens easy hard table small small' h =
-    deepens-by 8 refl refl easy hard h (increase 8 easy hard)
-    (omega (arith, compared hardens 8 easy hard refl h .rises 2 refl, compared weighs 8 easy hard refl h .rises 8 refl)) table small small'
-
 pub each-centimetre : Each CentimetreForCentimetre loads
-each-centimetre = draft-deepens & allowance-deepens & tt
+each-centimetre = deepens 2 refl refl (λ easy hard draft wave. omega arith) & deepens 8 refl refl (λ easy hard draft wave. omega arith) & tt
 
 -- two lanes that are named read the greatest squat
 module _ (fewer two table : List ℕ) (small : Bytes fewer) (small' : Bytes two) (h : NamesTwo fewer two) where
