@@ -276,7 +276,7 @@ fn part(seed: u64) -> u64 {
 }
 
 pub fn harder() {
-    let mut report = Report::new("harder", 550_000);
+    let mut report = Report::new("harder", 640_000);
     report.add(in_parts("harder", PARTS, part));
     report.end();
 }
