@@ -91,6 +91,22 @@ module _ (special first second third : ℕ) (falling : (first ≤ special) × (s
   there : (k other : ℕ) → InClass special first second third other k → classOf other ≡ k
   there k other i = class-exactly special first second third other falling k .1 i
 
+  -- a class between two others has just the figures from its limit to under the next
+  between : (k figure limit next : ℕ) → (1 ≤ k) × (k ≤ 3) → (1 ≤ limit) × (1 ≤ next) → ((o : ℕ) → (classOf o ≡ k) ↔ ((limit ≤ o) × (o < next)))
+      → limit ≤ figure → figure < next → Around classOf figure (classOf figure) (limits limit next)
+  between k figure limit next middle some exactly passed under =
+      let e = exactly figure .1 (passed, under) in
+      record {
+        reached = passed;
+        under-next = λ n. under;
+        none-better = (λ z. absurd (omega arith), λ z. absurd (omega arith));
+        none-passed = (λ z. absurd (omega arith), λ z. absurd (omega arith));
+        whole-class = λ o. (
+          (λ z. let w = exactly o .0 (z ∙ e) in (w .0, λ n. w .1)),
+          (λ z. exactly o .1 (z .0, z .1 (λ n. omega arith)) ∙ sym e),
+        );
+      }
+
   pub limits-around : (figure : ℕ) → Around classOf figure (classOf figure) (limitsBy special first second third figure)
   unfolding limitsBy
   limits-around figure = go (leb special figure) (leb first figure) (leb second figure) (leb third figure) refl refl refl refl
@@ -110,47 +126,14 @@ module _ (special first second third : ℕ) (falling : (first ≤ special) × (s
             whole-class = λ o. ((λ z. (within 0 o (z ∙ e), λ n. absurd (n refl))), (λ z. there 0 o (is-special (z .0)) ∙ sym e));
           }
       go false true c d p q r t =
-          let h = leb-true first figure q in
-          let k = leb-false special figure p in
-          let e = there 1 figure (is-first h k) in
-          record {
-            reached = h;
-            under-next = λ n. k;
-            none-better = (λ z. absurd (omega arith), λ z. absurd (omega arith));
-            none-passed = (λ z. absurd (omega arith), λ z. absurd (omega arith));
-            whole-class = λ o. (
-              (λ z. let w = within 1 o (z ∙ e) in (w .0, λ n. w .1)),
-              (λ z. there 1 o (is-first (z .0) (z .1 (λ n. omega arith))) ∙ sym e),
-            );
-          }
+          between 1 figure first special (omega arith) (omega arith) (λ o. (within 1 o, λ z. there 1 o (is-first (z .0) (z .1))))
+          (leb-true first figure q) (leb-false special figure p)
       go false false true d p q r t =
-          let h = leb-true second figure r in
-          let k = leb-false first figure q in
-          let e = there 2 figure (is-second h k) in
-          record {
-            reached = h;
-            under-next = λ n. k;
-            none-better = (λ z. absurd (omega arith), λ z. absurd (omega arith));
-            none-passed = (λ z. absurd (omega arith), λ z. absurd (omega arith));
-            whole-class = λ o. (
-              (λ z. let w = within 2 o (z ∙ e) in (w .0, λ n. w .1)),
-              (λ z. there 2 o (is-second (z .0) (z .1 (λ n. omega arith))) ∙ sym e),
-            );
-          }
+          between 2 figure second first (omega arith) (omega arith) (λ o. (within 2 o, λ z. there 2 o (is-second (z .0) (z .1))))
+          (leb-true second figure r) (leb-false first figure q)
       go false false false true p q r t =
-          let h = leb-true third figure t in
-          let k = leb-false second figure r in
-          let e = there 3 figure (is-third h k) in
-          record {
-            reached = h;
-            under-next = λ n. k;
-            none-better = (λ z. absurd (omega arith), λ z. absurd (omega arith));
-            none-passed = (λ z. absurd (omega arith), λ z. absurd (omega arith));
-            whole-class = λ o. (
-              (λ z. let w = within 3 o (z ∙ e) in (w .0, λ n. w .1)),
-              (λ z. there 3 o (is-third (z .0) (z .1 (λ n. omega arith))) ∙ sym e),
-            );
-          }
+          between 3 figure third second (omega arith) (omega arith) (λ o. (within 3 o, λ z. there 3 o (is-third (z .0) (z .1))))
+          (leb-true third figure t) (leb-false second figure r)
       go false false false false p q r t =
           let k = leb-false third figure t in
           let e = there 4 figure (is-last k) in

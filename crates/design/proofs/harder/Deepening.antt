@@ -5,6 +5,7 @@ use mathlib.Core.List.{List}
 use mathlib.Core.Logic.{inl, inr}
 use Prim.Native.Nat.{ℕ, _+_, _≤_}
 use native.Mathlib.Omega.{arith}
+use lib.Dec.{leb→le}
 use Rattle.laws.specs.Each.{Each, _&_}
 use Rattle.sheet.specs.Packing.{Bytes}
 use Rattle.sheet.specs.Sheets.{sheetOf}
@@ -16,14 +17,15 @@ use Rattle.depth.proofs.Promises.{two-lanes-read-most}
 use Rattle.design.specs.Design.{lanesFor, designOf}
 use Rattle.design.specs.Refusals.{sheetIn, levelIn}
 use Rattle.design.specs.Answers.{FiguresAre}
-use Rattle.design.specs.Harder.{cut, figureIn, Raised, Passes, BySpeed, NoEasier}
+use Rattle.design.specs.Harder.{cut, figureIn, Raised, BySpeed, NoEasier, no-less, refused, cured}
 use Rattle.design.specs.Growth.{Deeper, increase, CentimetreForCentimetre, loads, NamesTwo}
 use Rattle.design.specs.declared.Figures.{Figures}
 use Rattle.design.specs.declared.Answer.{Answer}
 use Rattle.design.specs.declared.Answer.the-variants.{Answered, Refused}
-use Rattle.design.proofs.rows.Exactly.{Ended, design-ended, design-exactly}
+use Rattle.design.proofs.rows.Exactly.{Ended, design-ended}
 use Rattle.design.proofs.harder.Compared.{weighs, hardens, compared}
-use Rattle.design.proofs.harder.Rows.{no-easier, cut-grows, cut-rises}
+use Rattle.design.proofs.harder.Rows.{cut-grows}
+use Rattle.design.proofs.harder.Never.{deepens-where}
 
 -- what two answers say of each other, where both are answered and the cuts are known to be that far apart
 both-answered : (easy hard table : List ℕ) (cm : ℕ)
@@ -62,6 +64,13 @@ module _ (k : ℕ) (is : weighs k ≡ true) (too : hardens k ≡ true)
 pub each-centimetre : Each CentimetreForCentimetre loads
 each-centimetre = deepens 2 refl refl (λ easy hard draft wave. omega arith) & deepens 8 refl refl (λ easy hard draft wave. omega arith) & tt
 
+-- what is no easier is no shallower
+no-shallower : (a b : Answer) → NoEasier BySpeed cut a b → Deeper 0 a b
+no-shallower (Answered f) (Answered g) (no-less no-less-cut) = let at-most = leb→le (f .cut .0) (g .cut .0) (no-less-cut .le) in omega arith
+no-shallower (Answered f) (Refused r) refused = tt
+no-shallower (Refused r) (Answered g) (cured left) = tt
+no-shallower (Refused r) (Refused r') refused = tt
+
 -- two lanes that are named read the greatest squat
 module _ (fewer two table : List ℕ) (small : Bytes fewer) (small' : Bytes two) (h : NamesTwo fewer two) where
   comes-to-two : lanesFor (sheetIn two) ≡ Two
@@ -72,24 +81,8 @@ module _ (fewer two table : List ℕ) (small : Bytes fewer) (small' : Bytes two)
   reads-no-less : squatReading (lanesFor (sheetIn fewer)) ≤ squatReading (lanesFor (sheetIn two))
   reads-no-less = rw comes-to-two (two-lanes-read-most (lanesFor (sheetIn fewer)))
 
-  passes-too : Passes two → Passes fewer
-  unfolding sheetOf
-  passes-too passes under =
-      let length = h .raised .else-equal 3 (omega arith) (omega arith) (λ e. omega arith) in
-      let beam = h .raised .else-equal 4 (omega arith) (omega arith) (λ e. omega arith) in
-      passes (omega arith)
+  pub two-never-easier : NoEasier BySpeed cut (designOf fewer table) (designOf two table)
+  two-never-easier = deepens-where 11 refl fewer two table small small' (h .raised) reads-no-less (λ longer. absurd (omega arith))
 
   pub two-never-shallower : Deeper 0 (designOf fewer table) (designOf two table)
-  unfolding sheetOf
-  two-never-shallower =
-      let c = compared hardens 11 fewer two refl (h .raised) in
-      both-answered fewer two table 0
-      (cut-grows fewer two table (h .raised .easy-read) reads-no-less c 0 (omega (arith, c .rises 2 refl, c .rises 8 refl)))
-      (designOf fewer table) (designOf two table) (design-ended fewer table small) (design-ended two table small')
-
-  pub two-never-easier : NoEasier BySpeed cut (designOf fewer table) (designOf two table)
-  two-never-easier =
-      let c = compared hardens 11 fewer two refl (h .raised) in
-      no-easier fewer two table (h .raised .easy-read) reads-no-less c small passes-too cut
-      (cut-rises fewer two table (h .raised .easy-read) reads-no-less c)
-      (designOf fewer table) (designOf two table) (design-exactly fewer table small) (design-ended fewer table small) (design-ended two table small')
+  two-never-shallower = no-shallower (designOf fewer table) (designOf two table) two-never-easier

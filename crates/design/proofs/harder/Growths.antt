@@ -1,11 +1,10 @@
 -- By how much the cut grows in each pair: the sheets are read from their bytes, and their designs are starred cases.
 use mathlib.Core.Path.{_≡_, refl, sym, ap, _∙_}
-use mathlib.Core.List.{List, []}
+use mathlib.Core.List.{List}
 use Prim.Native.Nat.{ℕ, suc, _+_}
 use native.Mathlib.Omega.{arith}
 use lib.Dec.{T, ltb→lt}
 use lib.IntN.{ℤ}
-use lib.ListN.{getD}
 use Rattle.laws.specs.Choice.{_<ᵇ_}
 use Rattle.laws.specs.Each.{Each, _&_}
 use Rattle.laws.specs.Every.{every}
@@ -21,7 +20,7 @@ use Rattle.design.specs.Harder.{figureIn, Raised}
 use Rattle.design.specs.Numbers.{numbersOf}
 use Rattle.design.specs.Refusals.{sheetIn}
 use Rattle.design.specs.Starred.{writing, starredNumbers}
-use Rattle.design.proofs.harder.Pairs.{agrees, else-equal, numberIn, code-is, cut-is}
+use Rattle.design.proofs.harder.Pairs.{agrees, else-equal, numberIn, numbersAt, code-is, cut-is}
 use Rattle.design.proofs.Starred.{starred}
 
 abbrev before : Growth → List ℕ
@@ -72,16 +71,12 @@ module _ (pair : Growth) (is : Pair pair) (easy hard : List ℤ) (easy-numbers :
             omega arith;
       }
 
--- the starred case at a place, counted from 0
-abbrev at : ℕ → List (List ℤ) → List ℤ
-at place cases = getD cases place []
-
 pub each-grown : Each Grown growths
 each-grown =
-    grown draftAsMuch (pairs .0) (at 24 starredNumbers) (at 0 starredNumbers) (λ table. ap (at 24) (starred table)) (λ table. ap (at 0) (starred table)) refl refl refl
-    & grown draftMore (pairs .1 .0) (at 0 starredNumbers) (at 25 starredNumbers) (λ table. ap (at 0) (starred table)) (λ table. ap (at 25) (starred table)) refl refl refl
-    & grown allowanceAsMuch (pairs .1 .1 .0) (at 0 starredNumbers) (at 26 starredNumbers) (λ table. ap (at 0) (starred table)) (λ table. ap (at 26) (starred table)) refl refl refl
-    & grown allowanceMore (pairs .1 .1 .1 .0) (at 4 starredNumbers) (at 27 starredNumbers) (λ table. ap (at 4) (starred table)) (λ table. ap (at 27) (starred table)) refl refl refl
-    & grown lanesAsMuch (pairs .1 .1 .1 .1 .0) (at 28 starredNumbers) (at 29 starredNumbers) (λ table. ap (at 28) (starred table)) (λ table. ap (at 29) (starred table)) refl refl refl
-    & grown lanesMore (pairs .1 .1 .1 .1 .1 .0) (at 0 starredNumbers) (at 1 starredNumbers) (λ table. ap (at 0) (starred table)) (λ table. ap (at 1) (starred table)) refl refl refl
+    grown draftAsMuch (pairs .0) (numbersAt 24 starredNumbers) (numbersAt 0 starredNumbers) (λ table. ap (numbersAt 24) (starred table)) (λ table. ap (numbersAt 0) (starred table)) refl refl refl
+    & grown draftMore (pairs .1 .0) (numbersAt 0 starredNumbers) (numbersAt 25 starredNumbers) (λ table. ap (numbersAt 0) (starred table)) (λ table. ap (numbersAt 25) (starred table)) refl refl refl
+    & grown allowanceAsMuch (pairs .1 .1 .0) (numbersAt 0 starredNumbers) (numbersAt 26 starredNumbers) (λ table. ap (numbersAt 0) (starred table)) (λ table. ap (numbersAt 26) (starred table)) refl refl refl
+    & grown allowanceMore (pairs .1 .1 .1 .0) (numbersAt 4 starredNumbers) (numbersAt 27 starredNumbers) (λ table. ap (numbersAt 4) (starred table)) (λ table. ap (numbersAt 27) (starred table)) refl refl refl
+    & grown lanesAsMuch (pairs .1 .1 .1 .1 .0) (numbersAt 28 starredNumbers) (numbersAt 29 starredNumbers) (λ table. ap (numbersAt 28) (starred table)) (λ table. ap (numbersAt 29) (starred table)) refl refl refl
+    & grown lanesMore (pairs .1 .1 .1 .1 .1 .0) (numbersAt 0 starredNumbers) (numbersAt 1 starredNumbers) (λ table. ap (numbersAt 0) (starred table)) (λ table. ap (numbersAt 1) (starred table)) refl refl refl
     & tt

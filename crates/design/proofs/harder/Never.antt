@@ -10,45 +10,52 @@ use borrow.Author.Tests.{eqb-true, eqb-false}
 use Rattle.laws.specs.Choice.{_=ᵇ_}
 use Rattle.laws.specs.Each.{Each, _&_}
 use Rattle.laws.proofs.Each.{each-implied}
+use Rattle.sheet.specs.Packing.{Bytes}
 use Rattle.sheet.specs.Sheets.{sheetOf}
 use Rattle.depth.specs.Squat.{squatReading}
 use Rattle.design.specs.Design.{lanesFor, designOf}
 use Rattle.design.specs.Refusals.{sheetIn}
-use Rattle.design.specs.Harder.{cut, width, hardenings, Hardening, Harder, Passes, BothPass, EasierPasses, AnyTwo, NeverEasier, _never-lessens_}
+use Rattle.design.specs.Harder.{cut, width, hardenings, Hardening, Raised, Harder, BySpeed, NoEasier, Passes, BothPass, EasierPasses, AnyTwo, NeverEasier, _never-lessens_}
 use Rattle.design.proofs.rows.Exactly.{design-ended, design-exactly}
 use Rattle.design.proofs.harder.Compared.{widens, hardens, compared}
 use Rattle.design.proofs.harder.Rows.{level-in-same, no-easier, cut-rises}
 use Rattle.design.proofs.harder.Widths.{width-rises}
 
 -- where the length is the greater figure, the shorter ship passes 18
-abbrev ShorterPasses : ℕ → List ℕ → List ℕ → Type 0
+abbrev pub ShorterPasses : ℕ → List ℕ → List ℕ → Type 0
 ShorterPasses k easy hard = k ≡ 3 → Passes easy
 
-passes-too : (k : ℕ) → hardens k ≡ true → (easy hard : List ℕ) → Harder k easy hard → ShorterPasses k easy hard → Passes hard → Passes easy
+passes-too : (k : ℕ) → hardens k ≡ true → (easy hard : List ℕ) → Raised k easy hard → ShorterPasses k easy hard → Passes hard → Passes easy
 unfolding sheetOf
 passes-too k is easy hard h shorter passes = go (k =ᵇ 3) refl
   where
     go : (b : Bool) → (k =ᵇ 3) ≡ b → Passes easy
     go true longer = shorter (eqb-true k 3 longer)
     go false other =
-        let length = h .raised .else-equal 3 (omega arith) (omega arith) (λ three. eqb-false k 3 other (omega arith)) in
-        let beam = compared hardens k easy hard is (h .raised) .rises 4 refl in
+        let length = h .else-equal 3 (omega arith) (omega arith) (λ three. eqb-false k 3 other (omega arith)) in
+        let beam = compared hardens k easy hard is h .rises 4 refl in
         λ under. passes (omega arith)
+
+-- where the harder sheet reads no less of the squat table, as in the same lanes
+pub deepens-where : (k : ℕ) → hardens k ≡ true → (easy hard table : List ℕ) → Bytes easy → Bytes hard → Raised k easy hard
+    → squatReading (lanesFor (sheetIn easy)) ≤ squatReading (lanesFor (sheetIn hard)) → ShorterPasses k easy hard
+    → NoEasier BySpeed cut (designOf easy table) (designOf hard table)
+deepens-where k is easy hard table small small' h reading shorter =
+    let c = compared hardens k easy hard is h in
+    no-easier easy hard table (h .easy-read) reading c small (passes-too k is easy hard h shorter) cut
+    (cut-rises easy hard table (h .easy-read) reading c)
+    (designOf easy table) (designOf hard table) (design-exactly easy table small) (design-ended easy table small) (design-ended hard table small')
 
 same-reading : {k : ℕ} {easy hard : List ℕ} → Harder k easy hard → squatReading (lanesFor (sheetIn easy)) ≤ squatReading (lanesFor (sheetIn hard))
 same-reading h = let same = ap squatReading (h .same-lanes) in omega arith
 
 deepens : (k : ℕ) → hardens k ≡ true → NeverEasier (ShorterPasses k) (k never-lessens cut)
-deepens k is easy hard table small small' h shorter =
-    let c = compared hardens k easy hard is (h .raised) in
-    no-easier easy hard table (h .raised .easy-read) (same-reading h) c small (passes-too k is easy hard h shorter) cut
-    (cut-rises easy hard table (h .raised .easy-read) (same-reading h) c)
-    (designOf easy table) (designOf hard table) (design-exactly easy table small) (design-ended easy table small) (design-ended hard table small')
+deepens k is easy hard table small small' h = deepens-where k is easy hard table small small' (h .raised) (same-reading h)
 
 broadens : (k : ℕ) → widens k ≡ true → hardens k ≡ true → NeverEasier (ShorterPasses k) (k never-lessens width)
 broadens k is too easy hard table small small' h shorter =
     let c = compared hardens k easy hard too (h .raised) in
-    no-easier easy hard table (h .raised .easy-read) (same-reading h) c small (passes-too k too easy hard h shorter) width
+    no-easier easy hard table (h .raised .easy-read) (same-reading h) c small (passes-too k too easy hard (h .raised) shorter) width
     (λ f g there are are'. width-rises easy hard table (h .same-lanes) (compared widens k easy hard is (h .raised))
     (level-in-same easy hard table (h .raised .easy-read) (same-reading h) c) f g are are' there)
     (designOf easy table) (designOf hard table) (design-exactly easy table small) (design-ended easy table small) (design-ended hard table small')

@@ -31,7 +31,7 @@ else-equal k easy hard t j low high other = go (j =ᵇ k) refl (every-at (suc co
     go true e agree = absurd (other (eqb-true j k e))
     go false e agree = eqb→eq (figureIn easy j) (figureIn hard j) agree
 
--- a number of a design, and of the design that stands at a place of a list, counted from 0
+-- a number of a design; the numbers of the design that stands at a place of a list, counted from 0, and one of them
 abbrev natural : ℤ → ℕ
 natural (pos n) = n
 natural (negsuc n) = 0
@@ -39,8 +39,11 @@ natural (negsuc n) = 0
 abbrev pub numberIn : ℕ → List ℤ → ℕ
 numberIn k numbers = natural (getD numbers k (pos 0))
 
+abbrev pub numbersAt : ℕ → List (List ℤ) → List ℤ
+numbersAt place designs = getD designs place []
+
 abbrev pub numberAt : ℕ → ℕ → List (List ℤ) → ℕ
-numberAt place k designs = numberIn k (getD designs place [])
+numberAt place k designs = numberIn k (numbersAt place designs)
 
 pub code-is : (a : Answer) → numberIn 0 (numbersOf a) ≡ codeOf a
 unfolding numbersOf
