@@ -1,7 +1,7 @@
-mod squat
-mod Sizes
+pub mod squat
+pub mod Sizes
 mod walks
-mod cuts
+pub mod cuts
 pub mod Refusals
 mod Cases
 pub mod Promises

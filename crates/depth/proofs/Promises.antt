@@ -25,9 +25,9 @@ use Rattle.depth.specs.declared.Depth.{Depth}
 use Rattle.depth.specs.declared.Depth.the-variants.{Cut, NoCut}
 use Rattle.depth.specs.Interval.{intervalOf}
 use Rattle.depth.specs.Squat.{none, columnNumber, squatReading, squatOf, fastestEntry}
-use Rattle.depth.specs.Depth.{allowancesOf, z3, naturalOf, filling, sailingWith, sailing, z4, Meets, AsDefined, Ranges, depthFaultNumber, depthNumber, NoDepthNumber}
+use Rattle.depth.specs.Depth.{allowancesOf, z3, naturalOf, filling, sailingWith, sailing, z4, ownColumn, Meets, AsDefined, Ranges, depthFaultNumber, depthNumber, NoDepthNumber}
 use Rattle.depth.specs.Worksheet.{endless, columnTry, blankTry, findingOf, tries, worksheetOf, answerOf, workDepth, Forward, Followed, Counted}
-use Rattle.depth.specs.Reasons.{IsFigure, SiltsUp, FirstUnusable, Reasoned, depthRows}
+use Rattle.depth.specs.Reasons.{IsFigure, SiltsUp, Usable, Comes, FirstUnusable, Reasoned, depthRows}
 use Rattle.depth.specs.Harder.{Harder, Deeper, NeverCured}
 use Rattle.depth.specs.Starred.{cases, figures}
 use Rattle.depth.proofs.squat.Columns.{two-most}
@@ -73,6 +73,10 @@ pub no-other-figure : (q : Stretch) (c : Column) (d : ℕ) → IsFigure q c d �
 unfolding columnTry
 no-other-figure q c d f = settling.line-figure q c d f .0
 
+-- It is s and its own silt.
+pub figure-of-its-silt : (q : Stretch) (c : Column) (d : ℕ) → IsFigure q c d → d ≡ sailing q c + z4 q c d
+figure-of-its-silt = settling.figure-sum
+
 -- It is computed and not searched: N and the dug part of s over the part that the silt leaves.
 pub figure-computed : (q : Stretch) (c : Column) → naturalOf q < sailing q c → filling q < 100000
     → columnTry q c .figure .0 ≡ naturalOf q + up (100000 * (sailing q c - naturalOf q)) (100000 - filling q)
@@ -108,6 +112,10 @@ no-other-depth = reasons.no-other
 -- and by none before it.
 pub number-exactly : (q : Stretch) (fault : DepthFault) → (depthNumber (workDepth q) ≡ depthFaultNumber fault) ↔ FirstUnusable q fault
 number-exactly = reasons.number-exactly
+
+-- From column A on no figure falls back: a column that is come to and can be used has its figure there or in a later one.
+pub never-falls-back : (q : Stretch) (c : Column) (d : ℕ) → Comes q A c → Usable q c d → columnNumber c ≤ columnNumber (ownColumn q d)
+never-falls-back = reasons.never-back
 
 -- So a number is given exactly when its row holds and none checked before it does, and every other depth is answered.
 pub numbers-in-order : (q : Stretch) → Exactly (depthRows q) (depthNumber (workDepth q))
@@ -190,6 +198,9 @@ one-interval code = one-answer
 
 pub depth-fault-number-unique : (fault : DepthFault) (r s : ℕ) → r ≡ depthFaultNumber fault → s ≡ depthFaultNumber fault → r ≡ s
 depth-fault-number-unique fault = one-answer
+
+pub one-squat : (lanes : Lanes) (c : Column) (speed r s : ℕ) → r ≡ squatOf lanes c speed → s ≡ squatOf lanes c speed → r ≡ s
+one-squat lanes c speed = one-answer
 
 pub one-fastest-entry : (c : Column) (r s : ℕ) → r ≡ fastestEntry c → s ≡ fastestEntry c → r ≡ s
 one-fastest-entry c = one-answer

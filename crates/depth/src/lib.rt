@@ -150,7 +150,7 @@ fn squat_reading(lanes: Lanes) -> usize
 }
 
 // The squat of a column at a speed; a speed outside the table has no entry.
-fn squat_of(lanes: Lanes, column: Column, speed: u8) -> u16
+pub fn squat_of(lanes: Lanes, column: Column, speed: u8) -> u16
     ensures { λ r. ⌜ r ≡ squatOf lanes column speed ⌝ }
 {
     if speed < 2 {

@@ -2,8 +2,9 @@
 use mathlib.Core.Path.{_≡_, refl, ap, sym, _∙_}
 use mathlib.Core.Bool.{Bool, true, false}
 use mathlib.Core.Logic.{_↔_}
-use Prim.Native.Nat.{ℕ, zero, suc, _+_, _<_}
+use Prim.Native.Nat.{ℕ, zero, suc, _+_, _-_, _≤_, _<_}
 use native.Mathlib.Nat.{not-suc-le-zero, le-of-suc-le-suc, add-suc, suc-add, add-zero, zero-add}
+use native.Mathlib.Numerals.{add-one}
 use native.Mathlib.Omega.{arith}
 use Rattle.laws.specs.Choice.{if_then_else_}
 use Rattle.laws.specs.First.{firstFrom, firstOf}
@@ -39,7 +40,7 @@ none-from test i (suc n) none =
     rw t (none-from test (suc i) n (λ j l. shift test i j ∙ none (suc j) (omega arith)))
 
 -- what the answer says of the places it passed
-data Told (test : ℕ → Bool) (i n r : ℕ) : Type 0 where
+pub data Told (test : ℕ → Bool) (i n r : ℕ) : Type 0 where
   found : (k : ℕ) → k < n → r ≡ suc (i + k) → test (i + k) ≡ true → ((j : ℕ) → j < k → test (i + j) ≡ false) → Told test i n r
   nowhere : r ≡ 0 → ((j : ℕ) → j < n → test (i + j) ≡ false) → Told test i n r
 
@@ -49,7 +50,7 @@ in-front : (test : ℕ → Bool) (i n : ℕ) → test i ≡ false → ((j : ℕ)
 in-front test i n t none zero l = ap test (add-zero i) ∙ t
 in-front test i n t none (suc j) l = sym (shift test i j) ∙ none j (le-of-suc-le-suc l)
 
-tell : (test : ℕ → Bool) (i n : ℕ) → Told test i n (firstFrom test i n)
+pub tell : (test : ℕ → Bool) (i n : ℕ) → Told test i n (firstFrom test i n)
 unfolding firstFrom
 tell test i zero = nowhere refl (λ j l. absurd (not-suc-le-zero l))
 tell test i (suc n) = go (test i) refl (tell test (suc i) n)
@@ -61,6 +62,20 @@ tell test i (suc n) = go (test i) refl (tell test (suc i) n)
     go false e (found k l r here none) =
         found (suc k) (omega arith) (r ∙ omega arith) (sym (shift test i k) ∙ here) (in-front test i k e none)
     go false e (nowhere r none) = nowhere r (in-front test i n e none)
+
+-- the search from i up to to, by its steps: none is left, the first is here, or it goes on
+module _ (test : ℕ → Bool) (i to : ℕ) where
+  pub first-end : to ≤ i → 0 ≡ firstFrom test i (to - i)
+  unfolding firstFrom
+  first-end h = let e : to - i ≡ 0 = omega arith in rw e
+
+  pub first-here : i < to → test i ≡ true → i + 1 ≡ firstFrom test i (to - i)
+  unfolding firstFrom
+  first-here h t = let e : to - i ≡ suc (to - (i + 1)) = omega arith in rw (e, t) (add-one i)
+
+  pub first-on : i < to → test i ≡ false → firstFrom test i (to - i) ≡ firstFrom test (i + 1) (to - (i + 1))
+  unfolding firstFrom
+  first-on h t = let e : to - i ≡ suc (to - (i + 1)) = omega arith in rw (e, t, add-one)
 
 module _ (test : ℕ → Bool) (n : ℕ) where
   pub first-is : (k : ℕ) → FirstAt test n k → firstOf test n ≡ k + 1

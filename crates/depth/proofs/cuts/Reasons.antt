@@ -3,7 +3,7 @@ use mathlib.Core.Path.{_≡_, refl, sym, ap, subst, _∙_}
 use mathlib.Core.Bool.{Bool, true, false, true≢false}
 use mathlib.Core.List.{List, [], _∷_}
 use mathlib.Core.Logic.{_↔_, inl, inr, _≢_}
-use Prim.Native.Nat.{ℕ, _≤_, _<_}
+use Prim.Native.Nat.{ℕ, _≤_, _<_, zero-le}
 use native.Mathlib.Omega.{arith}
 use borrow.Author.Tests.{leb-true, leb-false}
 use lib.Dec.{leb}
@@ -21,11 +21,12 @@ use Rattle.depth.specs.declared.Finding.the-variants.{Stays, Moves, Unus
 use Rattle.depth.specs.declared.Depth.{Depth}
 use Rattle.depth.specs.declared.Depth.the-variants.{Cut, NoCut}
 use Rattle.depth.specs.Squat.{none, columnNumber}
-use Rattle.depth.specs.Depth.{sailing, Deep, ownColumn, Meets, AsDefined, depthFaultNumber, depthNumber, NoDepthNumber}
+use Rattle.depth.specs.Depth.{naturalOf, sailing, Deep, Serves, ownColumn, Meets, AsDefined, depthFaultNumber, depthNumber, NoDepthNumber}
 use Rattle.depth.specs.Worksheet.{silt, figure, columnTry, findingOf, isMove, movesOn, tries, lastTry, answerBy, answerOf, workDepth, Followed, Counted}
 use Rattle.depth.specs.Reasons.{IsFigure, Usable, Fails, Comes, there, by-way-of, FirstUnusable, Reasoned}
-use Rattle.depth.proofs.squat.Columns.{same-column}
+use Rattle.depth.proofs.squat.Columns.{column-up, same-column}
 use Rattle.depth.proofs.walks.Findings.{no-entry, too-much-silt, too-deep, moves, Within, Past, Says, finding-says}
+use Rattle.depth.proofs.cuts.Easier.{serves-earlier}
 use Rattle.depth.proofs.cuts.Settling.{silt-stays, figure-is, line-figure}
 use Rattle.depth.proofs.cuts.LeastCut.{last-stops, tries-followed, work-as-defined, work-counted}
 
@@ -109,6 +110,23 @@ module _ (q : Stretch) where
             comes = by-way-of c (r .column) (figure q c) (m .0) (m .1) (subst (λ (b : Column). Comes q b (r .column)) (falls c t (f .0)) (r .comes));
             line = r .line;
           }
+
+  -- whatever a column serves falls there or in a later one
+  abbrev Onward : Column → Type 0
+  Onward c = (d : ℕ) → Serves q c d → columnNumber c ≤ columnNumber (ownColumn q d)
+
+  usable-serves : (c : Column) (d : ℕ) → Usable q c d → Serves q c d
+  usable-serves c d u = record { entry = u .entry; silt = u .silt; deep = u .figure .holds }
+
+  -- so it is of each column that is come to: what serves it serves the one before, and is as deep as its figure
+  onward : (c c' : Column) → Comes q c c' → Onward c → Onward c'
+  onward c c' (there _) o = o
+  onward c c' (by-way-of _ _ d u other r) o =
+      onward (ownColumn q d) c' r
+      (λ e v. column-up (naturalOf q) d e (u .figure .least e (serves-earlier q c (ownColumn q d) e (o d (usable-serves c d u)) v .deep)))
+
+  pub never-back : (c : Column) (d : ℕ) → Comes q A c → Usable q c d → columnNumber c ≤ columnNumber (ownColumn q d)
+  never-back c d r u = onward A c r (λ e v. zero-le) d (usable-serves c d u)
 
   -- a column that it cannot leave
   abbrev Stops : Column → Type 0

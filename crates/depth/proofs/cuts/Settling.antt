@@ -126,6 +126,10 @@ module _ (q : Stretch) (c : Column) where
       let same = least-only (Deep q c) (figure q c) d (figure-is stays) f in
       (same, silt-is stays ∙ ap (z4 q c) same)
 
+  pub figure-sum : (d : ℕ) → IsFigure q c d → d ≡ sailing q c + z4 q c d
+  unfolding figure
+  figure-sum d f = let l = line-figure d f in omega (arith, l .0, l .1)
+
   pub no-figure-exactly : ((d : ℕ) → ¬ IsFigure q c d) ↔ SiltsUp q c
   no-figure-exactly = (
     (λ none. go none (leb (sailing q c) (naturalOf q)) (leb 100000 (filling q)) refl refl),

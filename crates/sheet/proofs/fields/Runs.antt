@@ -1,9 +1,8 @@
--- The search for the first place where a test holds, by steps and by runs of places.
+-- The search for the first place where a test holds, by runs of places.
 use mathlib.Core.Path.{_≡_, refl}
 use mathlib.Core.Bool.{Bool, true, false}
-use Prim.Native.Nat.{ℕ, zero, suc, _+_, _-_, _<_, _≤_}
+use Prim.Native.Nat.{ℕ, zero, suc, _+_, _<_, _≤_}
 use native.Mathlib.Nat.{add-zero, zero-add, suc-add, add-suc}
-use native.Mathlib.Numerals.{add-one}
 use native.Mathlib.Omega.{arith}
 use borrow.Author.Tests.{ne-eqb}
 use lib.Dec.{eqb}
@@ -11,19 +10,6 @@ use Rattle.laws.specs.Choice.{if_then_else_}
 use Rattle.laws.specs.First.{firstFrom}
 
 module _ (test : ℕ → Bool) where
-  -- from i up to to
-  pub first-end : (i to : ℕ) → to ≤ i → 0 ≡ firstFrom test i (to - i)
-  unfolding firstFrom
-  first-end i to h = let e : to - i ≡ 0 = omega arith in rw e
-
-  pub first-here : (i to : ℕ) → i < to → test i ≡ true → i + 1 ≡ firstFrom test i (to - i)
-  unfolding firstFrom
-  first-here i to h t = let e : to - i ≡ suc (to - (i + 1)) = omega arith in rw (e, t) (add-one i)
-
-  pub first-on : (i to : ℕ) → i < to → test i ≡ false → firstFrom test i (to - i) ≡ firstFrom test (i + 1) (to - (i + 1))
-  unfolding firstFrom
-  first-on i to h t = let e : to - i ≡ suc (to - (i + 1)) = omega arith in rw (e, t, add-one)
-
   -- a run of n places and m more: the first is that of the run, or past it where it has none
   pub past-run : (i n m : ℕ) → firstFrom test i (n + m) ≡ (if eqb (firstFrom test i n) 0 then firstFrom test (i + n) m else firstFrom test i n)
   unfolding firstFrom

@@ -3,8 +3,8 @@ use mathlib.Core.Path.{_≡_, refl, sym, _∙_}
 use Prim.Native.Nat.{_-_}
 use native.Mathlib.Omega.{arith}
 use borrow.Author.Needs.{needs}
+use Rattle.laws.proofs.First.{first-end, first-here, first-on}
 use Rattle.sheet.specs.Fields.{count, badAt, firstBadFrom}
-use Rattle.sheet.proofs.fields.Runs.{first-end, first-here, first-on}
 use Rattle.sheet.proofs.fields.first_bad_from.Statement.{statement}
 use Rattle.sheet.proofs.fields.first_bad_from.Tie as tie
 
