@@ -1,5 +1,5 @@
 -- The rules of a column, and of the columns from A on: where no cut meets the definition, the reason is that of the first that cannot be used.
-use mathlib.Core.Path.{_≡_, refl, sym, ap, subst}
+use mathlib.Core.Path.{_≡_, refl, sym, subst}
 use mathlib.Core.Bool.{Bool, true, false}
 use mathlib.Core.Logic.{_≢_}
 use Prim.Native.Nat.{ℕ, zero, suc, _+_, _≤_, _<_}
@@ -10,8 +10,7 @@ use Rattle.laws.specs.Choice.{if_then_else_}
 use Rattle.depth.specs.declared.Stretch.{Stretch}
 use Rattle.depth.specs.declared.Column.{Column}
 use Rattle.depth.specs.declared.Column.the-variants.{A}
-use Rattle.depth.specs.declared.DepthFault.{DepthFault}
-use Rattle.depth.specs.declared.DepthFault.the-variants.{NoSquatEntry, SiltOver, CutOver}
+use Rattle.depth.specs.declared.DepthFault.the-variants.{NoSquatEntry, CutOver}
 use Rattle.depth.specs.Squat.{none, columnNumber}
 use Rattle.depth.specs.Depth.{z3, naturalOf, sailing, z4, Deep, Serves, ownColumn, Meets}
 use Rattle.depth.specs.Reasons.{IsFigure, Usable, Fails as FailsBy, Comes, there, by-way-of, FirstUnusable}

@@ -1,7 +1,7 @@
 -- The plain engine: each cut from 1 to 3,000 is tried against the definition (section 4.6), and the first that meets it is taken.
 -- Where none does, the rules of the columns say why (section 4.7). `Meaning.antt` has what it comes to, with no word of a search.
 use Prim.Native.Nat.{ℕ, zero, suc, _+_}
-use mathlib.Core.Bool.{Bool, true, false}
+use mathlib.Core.Bool.{Bool, false}
 use Rattle.laws.specs.Choice.{if_then_else_, _≤ᵇ_, _<ᵇ_}
 use Rattle.laws.specs.First.{firstFrom}
 use Rattle.datum.specs.Datum.{below}

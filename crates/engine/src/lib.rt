@@ -156,12 +156,12 @@ fn first_figure(stretch: Stretch, column: Column) -> Search
     ensures { λ r. ⌜ r ≡ firstFigure stretch column ⌝ }
 {
     let s = sailing_in(stretch, column);
-    let mut d = s;
-    while d <= s + MOST_SILT {
-        if is_deep(stretch, column, d) {
-            return Search::At(d);
+    let mut figure = s;
+    while figure <= s + MOST_SILT {
+        if is_deep(stretch, column, figure) {
+            return Search::At(figure);
         }
-        d += 1;
+        figure += 1;
     }
     Search::Nowhere
 }

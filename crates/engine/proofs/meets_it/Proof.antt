@@ -1,5 +1,4 @@
 -- `engine::meets_it` meets its contract: the column is the cut's own.
-use mathlib.Core.Path.{ap, _∙_}
 use Rattle.engine.specs.Plain.{meets}
 use borrow.Author.Needs.{needs}
 use Rattle.engine.proofs.meets_it.Statement.{statement}

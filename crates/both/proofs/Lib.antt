@@ -1,0 +1,5 @@
+mod Steps
+mod Standing
+mod Agreeing
+mod Codes
+pub mod Promises
