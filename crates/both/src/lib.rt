@@ -3,6 +3,7 @@ ghost use mathlib.Core.Path.{_≡_};
 ghost use Rattle.both.specs.Both.{reasonCame, cameTo, sameNumbers, verdictOf, notCome, ofStretch, byLevel, byReading, bothOf};
 use design::Answer;
 use design::Reason;
+use engine::PLAIN_COUNT;
 use gauge::LevelRead;
 use sheet::Sheet;
 use sheet::SheetRead;
@@ -17,7 +18,7 @@ pub enum Verdict {
 // The answer of a sheet; beside it the plain engine's refusal, sailing depth and cut, all 0 where the sheet is refused before its depth.
 pub struct Both {
     pub answer: Answer,
-    pub plain: [u64; 3],
+    pub plain: [u64; PLAIN_COUNT],
     pub verdict: Verdict,
 }
 
@@ -45,7 +46,7 @@ fn reason_came(reason: Reason) -> bool
 }
 
 // Whether two depths have the same refusal, sailing depth and cut.
-fn same_numbers(worked: [u64; 3], plain: [u64; 3]) -> bool
+fn same_numbers(worked: [u64; PLAIN_COUNT], plain: [u64; PLAIN_COUNT]) -> bool
     ensures { λ r. ⌜ r ≡ sameNumbers worked plain ⌝ }
 {
     if worked[0] != plain[0] {
@@ -57,7 +58,7 @@ fn same_numbers(worked: [u64; 3], plain: [u64; 3]) -> bool
     worked[2] == plain[2]
 }
 
-fn verdict_of(worked: [u64; 3], plain: [u64; 3]) -> Verdict
+fn verdict_of(worked: [u64; PLAIN_COUNT], plain: [u64; PLAIN_COUNT]) -> Verdict
     ensures { λ r. ⌜ r ≡ verdictOf worked plain ⌝ }
 {
     if same_numbers(worked, plain) {

@@ -12,6 +12,10 @@ abbrev pub uncounted : Depth → PlainDepth
 uncounted (Cut f) = Met (record { cut = f .cut; sailing = f .sailing })
 uncounted (NoCut fault) = Unmet fault
 
+-- how many numbers a depth has
+abbrev pub plainCount : ℕ
+plainCount = 3
+
 -- its refusal, 0 where it has a cut, its sailing depth and its cut
 abbrev pub plainNumbers : PlainDepth → List ℕ
 plainNumbers (Met f) = 0 ∷ f .sailing .0 ∷ f .cut .0 ∷ []

@@ -38,6 +38,9 @@ enum Ruling {
     FallsIn(Column),
 }
 
+// How many numbers a depth has: its refusal, its sailing depth and its cut.
+pub const PLAIN_COUNT: usize = 3;
+
 // The deepest cut.
 const DEEPEST: u64 = 3000;
 
@@ -252,8 +255,8 @@ pub fn uncounted_of(depth: Depth) -> PlainDepth
     }
 }
 
-// The numbers of a depth: its refusal, 0 where it has a cut, its sailing depth and its cut.
-pub fn plain_numbers(depth: PlainDepth) -> [u64; 3]
+// The numbers of a depth, its refusal 0 where it has a cut.
+pub fn plain_numbers(depth: PlainDepth) -> [u64; PLAIN_COUNT]
     ensures { λ r. ⌜ r ≡ plainNumbers depth ⌝ }
 {
     match depth {
