@@ -1,7 +1,7 @@
 -- What the lines promise, in the definition's words (the printing program). Each proof stands where it is cited.
 use mathlib.Core.Path.{_≡_}
 use mathlib.Core.Bool.{Bool}
-use mathlib.Core.List.{List, [], _∷_, _++_, List·Memᴰ}
+use mathlib.Core.List.{List, [], _∷_, _++_, map, List·Memᴰ}
 use mathlib.Core.Logic.{_↔_}
 use Prim.Native.Nat.{ℕ, _+_, _*_, _^_, _≤_, _<_}
 use lib.IntN.{ℤ, pos}
@@ -20,11 +20,12 @@ use Rattle.design.specs.Numbers.{numberCount, numbersOf}
 use Rattle.design.specs.Starred.{writing}
 use Rattle.design.proofs.Promises.{all-numbers, numbers-fit}
 use Rattle.lines.specs.Starred.{numbersOfS, lineOfS}
-use Rattle.lines.specs.Lines.{levelsLine, sheetLine, routeLine, lineBytes, countBytes, numberBytes, placeWithin, bufferWithin, placeAfter, bufferAfter, Put}
+use Rattle.lines.specs.Lines.{newline, spaced, levelsLine, sheetLine, bothLine, routeLine, bothRouteLine, plainCount, lineBytes, countBytes, numberBytes, placeWithin, bufferWithin, placeAfter, bufferAfter, Put}
 use Rattle.lines.proofs.decimals.Meaning.{digits-value, digits-decimal, decimal-only}
 use Rattle.lines.proofs.decimals.Texts.{count-text-one, number-text-one, minus-negative}
-use Rattle.lines.proofs.wholes.OneLine.{sheet-line-one, levels-line-one, route-line-one}
-use Rattle.lines.proofs.wholes.Sizes.{count-at-most-20, sheet-line-size, levels-line-size, route-line-size}
+use Rattle.lines.proofs.wholes.OneLine.{sheet-line-one, both-line-one, levels-line-one, route-line-one, both-route-line-one}
+use Rattle.lines.proofs.wholes.Longer.{longer-sheet-line, longer-route-line}
+use Rattle.lines.proofs.wholes.Sizes.{count-at-most-20, sheet-line-size, both-line-size, levels-line-size, route-line-size, both-route-line-size}
 use Rattle.lines.proofs.putting.Fitting.{same-place-exactly, buffer-unfit, before-kept, line-stands, line-behind, none-lost, after-kept, length-kept, place-within, put-within}
 use Rattle.lines.proofs.putting.Signs.{number-at-most}
 use Rattle.lines.proofs.wholes.Sample.{first-line, numbers-s, line-s, last-line}
@@ -55,6 +56,11 @@ minus-exactly = minus-negative
 pub sheet-of-line : (i j : ℕ) (numbers others : List ℤ) → sheetLine i numbers ≡ sheetLine j others → (i ≡ j) × (numbers ≡ others)
 sheet-of-line = sheet-line-one
 
+-- of both engines where the sheets have as many numbers, as all have.
+pub both-of-line : (i j : ℕ) (numbers others : List ℤ) (plain more : List ℕ) → length numbers ≡ length others
+    → bothLine i numbers plain ≡ bothLine j others more → (i ≡ j) × (numbers ≡ others) × (plain ≡ more)
+both-of-line = both-line-one
+
 pub levels-of-line : (added missing refused a m r : ℕ) → levelsLine added missing refused ≡ levelsLine a m r
     → (added ≡ a) × (missing ≡ m) × (refused ≡ r)
 levels-of-line = levels-line-one
@@ -63,10 +69,27 @@ pub route-of-line : (sheets answered class s a c : ℕ) → routeLine sheets ans
     → (sheets ≡ s) × (answered ≡ a) × (class ≡ c)
 route-of-line = route-line-one
 
--- No line is longer than its 192 bytes: a sheet's has at most 177, the first and the last at most 65.
+pub both-route-of-line : (sheets answered class agreed s a c g : ℕ) → bothRouteLine sheets answered class agreed ≡ bothRouteLine s a c g
+    → (sheets ≡ s) × (answered ≡ a) × (class ≡ c) × (agreed ≡ g)
+both-route-of-line = both-route-line-one
+
+-- The line by both engines is the one by the worksheet alone, with the plain engine's numbers before its newline.
+pub both-line-longer : (index : ℕ) (numbers : List ℤ) (plain : List ℕ)
+    → (text : List ℕ) × (sheetLine index numbers ≡ text ++ newline ∷ []) × (bothLine index numbers plain ≡ text ++ (spaced (map countText plain) ++ newline ∷ []))
+both-line-longer = longer-sheet-line
+
+pub both-route-line-longer : (sheets answered class agreed : ℕ)
+    → (text : List ℕ) × (routeLine sheets answered class ≡ text ++ newline ∷ []) × (bothRouteLine sheets answered class agreed ≡ text ++ (spaced (countText agreed ∷ []) ++ newline ∷ []))
+both-route-line-longer = longer-route-line
+
+-- No line is longer than its 240 bytes: a sheet's has at most 177, the first and the last at most 65; by both engines a sheet's has at most 240 and the last 86.
 pub sheet-line-fits : (index : ℕ) (numbers : List ℤ) → index < 2 ^ 64 → length numbers ≡ numberCount → Each (SFits w32) numbers
     → length (sheetLine index numbers) ≤ 12 * numberCount + 21
 sheet-line-fits = sheet-line-size
+
+pub both-line-fits : (index : ℕ) (numbers : List ℤ) (plain : List ℕ) → index < 2 ^ 64 → length numbers ≡ numberCount → Each (SFits w32) numbers
+    → length plain ≡ plainCount → Each (λ (n : ℕ). n < 2 ^ 64) plain → length (bothLine index numbers plain) ≤ lineBytes
+both-line-fits = both-line-size
 
 -- So has the line of a design.
 pub design-line-fits : (index : ℕ) (bytes table : List ℕ) → index < 2 ^ 64 → Bytes bytes
@@ -82,7 +105,11 @@ pub route-line-fits : (sheets answered class : ℕ) → sheets < 2 ^ 64 → answ
     → length (routeLine sheets answered class) ≤ 65
 route-line-fits = route-line-size
 
--- The same place is answered exactly when fewer than 192 bytes are left from it, and then nothing is written.
+pub both-route-line-fits : (sheets answered class agreed : ℕ) → sheets < 2 ^ 64 → answered < 2 ^ 64 → class < 2 ^ 64 → agreed < 2 ^ 64
+    → length (bothRouteLine sheets answered class agreed) ≤ 86
+both-route-line-fits sheets answered class agreed s a c g = both-route-line-size sheets answered class s a c agreed g
+
+-- The same place is answered exactly when fewer than 240 bytes are left from it, and then nothing is written.
 pub unfit-exactly : (line : List ℕ) (at : ℕ) (buffer : List ℕ) → 0 < length line → (placeAfter line at buffer ≡ at) ↔ (length buffer < at + lineBytes)
 unfit-exactly = same-place-exactly lineBytes
 
@@ -141,7 +168,7 @@ count-fits = count-at-most-20
 pub number-fits : (number : ℤ) → SFits w32 number → length (numberText number) ≤ 11
 number-fits = number-at-most
 
--- One answered place and one later content of the buffer, for each of the six calls.
+-- One answered place and one later content of the buffer, for each of the eight calls.
 pub decimal-place-unique : (count at : ℕ) (buffer : List ℕ) (r s : ℕ)
     → r ≡ placeWithin countBytes (countText count) at buffer → s ≡ placeWithin countBytes (countText count) at buffer → r ≡ s
 decimal-place-unique count at buffer = one-answer
@@ -169,9 +196,6 @@ bytes-buffer-unique text at buffer = one-answer
 pub room-unique : (bytes at room : ℕ) (r s : Bool) → r ≡ (at + room ≤ᵇ bytes) → s ≡ (at + room ≤ᵇ bytes) → r ≡ s
 room-unique bytes at room = one-answer
 
-pub fits-unique : (bytes at : ℕ) (r s : Bool) → r ≡ (at + lineBytes ≤ᵇ bytes) → s ≡ (at + lineBytes ≤ᵇ bytes) → r ≡ s
-fits-unique bytes at = one-answer
-
 pub sheet-place-unique : (index : ℕ) (numbers : List ℤ) (at : ℕ) (buffer : List ℕ) (r s : ℕ)
     → r ≡ placeAfter (sheetLine index numbers) at buffer → s ≡ placeAfter (sheetLine index numbers) at buffer → r ≡ s
 sheet-place-unique index numbers at buffer = one-answer
@@ -179,6 +203,14 @@ sheet-place-unique index numbers at buffer = one-answer
 pub sheet-buffer-unique : (index : ℕ) (numbers : List ℤ) (at : ℕ) (buffer now later : List ℕ)
     → now ≡ bufferAfter (sheetLine index numbers) at buffer → later ≡ bufferAfter (sheetLine index numbers) at buffer → now ≡ later
 sheet-buffer-unique index numbers at buffer = one-answer
+
+pub both-place-unique : (index : ℕ) (numbers : List ℤ) (plain : List ℕ) (at : ℕ) (buffer : List ℕ) (r s : ℕ)
+    → r ≡ placeAfter (bothLine index numbers plain) at buffer → s ≡ placeAfter (bothLine index numbers plain) at buffer → r ≡ s
+both-place-unique index numbers plain at buffer = one-answer
+
+pub both-buffer-unique : (index : ℕ) (numbers : List ℤ) (plain : List ℕ) (at : ℕ) (buffer now later : List ℕ)
+    → now ≡ bufferAfter (bothLine index numbers plain) at buffer → later ≡ bufferAfter (bothLine index numbers plain) at buffer → now ≡ later
+both-buffer-unique index numbers plain at buffer = one-answer
 
 pub levels-place-unique : (added missing refused at : ℕ) (buffer : List ℕ) (r s : ℕ)
     → r ≡ placeAfter (levelsLine added missing refused) at buffer → s ≡ placeAfter (levelsLine added missing refused) at buffer → r ≡ s
@@ -197,6 +229,15 @@ pub route-buffer-unique : (sheets answered class at : ℕ) (buffer now later : L
     → now ≡ bufferAfter (routeLine sheets answered class) at buffer → later ≡ bufferAfter (routeLine sheets answered class) at buffer
     → now ≡ later
 route-buffer-unique sheets answered class at buffer = one-answer
+
+pub both-route-place-unique : (sheets answered class agreed at : ℕ) (buffer : List ℕ) (r s : ℕ)
+    → r ≡ placeAfter (bothRouteLine sheets answered class agreed) at buffer → s ≡ placeAfter (bothRouteLine sheets answered class agreed) at buffer → r ≡ s
+both-route-place-unique sheets answered class agreed at buffer = one-answer
+
+pub both-route-buffer-unique : (sheets answered class agreed at : ℕ) (buffer now later : List ℕ)
+    → now ≡ bufferAfter (bothRouteLine sheets answered class agreed) at buffer → later ≡ bufferAfter (bothRouteLine sheets answered class agreed) at buffer
+    → now ≡ later
+both-route-buffer-unique sheets answered class agreed at buffer = one-answer
 
 -- The lines of the definition's sample: L 0 0 0, the numbers and the line of S's design over any table, R 1 1 0.
 pub starred-levels : levelsLine 0 0 0 ≡ 76 ∷ 32 ∷ 48 ∷ 32 ∷ 48 ∷ 32 ∷ 48 ∷ 10 ∷ []

@@ -38,13 +38,25 @@ levelsLine added missing refused = lineText (letterL ∷ []) (map countText (add
 unfoldable pub sheetLine : ℕ → List ℤ → List ℕ
 sheetLine index numbers = lineText (countText index) (map numberText numbers)
 
+-- the line of a sheet by both engines: its index, its numbers, and the plain engine's
+unfoldable pub bothLine : ℕ → List ℤ → List ℕ → List ℕ
+bothLine index numbers plain = lineText (countText index) (map numberText numbers ++ map countText plain)
+
 -- the last line: R, sheets, answered, route class
 unfoldable pub routeLine : ℕ → ℕ → ℕ → List ℕ
 routeLine sheets answered class = lineText (letterR ∷ []) (map countText (sheets ∷ answered ∷ class ∷ []))
 
--- the bytes that a line is given: no line of a sheet has more than 12 for each number and 21 for its index and the newline
+-- the last line by both engines: on how many sheets they agreed behind it
+unfoldable pub bothRouteLine : ℕ → ℕ → ℕ → ℕ → List ℕ
+bothRouteLine sheets answered class agreed = lineText (letterR ∷ []) (map countText (sheets ∷ answered ∷ class ∷ agreed ∷ []))
+
+-- how many numbers the plain engine has
+abbrev pub plainCount : ℕ
+plainCount = 3
+
+-- the bytes that a line is given: none has more than 12 for each number of a sheet, 21 for each of the plain engine's, and 21 for its index and the newline
 abbrev pub lineBytes : ℕ
-lineBytes = 12 * numberCount + 36
+lineBytes = 12 * numberCount + 21 * plainCount + 21
 
 -- a buffer with a text at a place
 unfoldable pub withText : ℕ → List ℕ → List ℕ → List ℕ

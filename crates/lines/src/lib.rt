@@ -1,20 +1,20 @@
 // The lines of the printing program: their text in decimal, put into a lent buffer.
 ghost use mathlib.Core.Path.{_≡_};
-ghost use mathlib.Core.List.{[], _∷_, map};
+ghost use mathlib.Core.List.{[], _∷_, _++_, map};
 ghost use Prim.Native.Nat.{_+_, _-_, _*_, _≤_, _<_};
 ghost use lib.IntN.{natAbs};
 ghost use lib.ListN.{length, take, drop};
 ghost use Rattle.laws.specs.Choice.{_≤ᵇ_};
 ghost use Rattle.design.specs.Numbers.{numberCount};
 ghost use Rattle.lines.specs.Decimals.{digits, countText, numberText};
-ghost use Rattle.lines.specs.Lines.{lineBytes, spaced, lineText, sheetLine, levelsLine, routeLine, countBytes, numberBytes, placeWithin, bufferWithin, placeAfter, bufferAfter, Put};
+ghost use Rattle.lines.specs.Lines.{lineBytes, spaced, lineText, sheetLine, bothLine, levelsLine, routeLine, bothRouteLine, countBytes, numberBytes, placeWithin, bufferWithin, placeAfter, bufferAfter, Put};
 use design::COUNT;
 
-// The counts of a line that begins with a letter.
-const COUNTS: usize = 3;
+// The figures of the plain engine.
+const PLAIN: usize = 3;
 
-// The bytes that a line is given: a sheet's has at most 12 for each number and 21 for its index and the newline.
-pub const LINE_BYTES: usize = 12 * COUNT + 36;
+// The bytes that a line is given: the longest has 12 for each number of a sheet, 21 for each of the plain engine's, and 21 for its index and the newline.
+pub const LINE_BYTES: usize = 12 * COUNT + 21 * PLAIN + 21;
 
 // The bytes that a count is given.
 const COUNT_BYTES: usize = 20;
@@ -44,6 +44,22 @@ pub fn put_sheet_line(index: u64, numbers: [i32; COUNT], buffer: &mut [u8], at: 
     put_index_line(index, numbers, buffer, at)
 }
 
+// The line of a sheet with the plain engine's figures behind its numbers, likewise.
+pub fn put_both_line(
+    index: u64,
+    numbers: [i32; COUNT],
+    plain: [u64; PLAIN],
+    buffer: &mut [u8],
+    at: usize,
+) -> usize
+    ensures { λ r. ⌜ (r ≡ placeAfter (bothLine index numbers plain) at (now (buffer .entry))) × (now (buffer .exit) ≡ bufferAfter (bothLine index numbers plain) at (now (buffer .entry))) ⌝ }
+{
+    if !line_fits(buffer.len(), at) {
+        return at;
+    }
+    put_longer_line(index, numbers, plain, buffer, at)
+}
+
 // The first line likewise: the readings added, missing and refused.
 pub fn put_levels_line(
     added: u64,
@@ -57,7 +73,7 @@ pub fn put_levels_line(
     if !line_fits(buffer.len(), at) {
         return at;
     }
-    put_letter_line(LETTER_L, [added, missing, refused], buffer, at)
+    put_letter_line(LETTER_L, &[added, missing, refused], buffer, at)
 }
 
 // The last line likewise: the sheets, those answered, and the route's class.
@@ -67,7 +83,29 @@ pub fn put_route_line(sheets: u64, answered: u64, class: u8, buffer: &mut [u8], 
     if !line_fits(buffer.len(), at) {
         return at;
     }
-    put_letter_line(LETTER_R, [sheets, answered, class as u64], buffer, at)
+    put_letter_line(LETTER_R, &[sheets, answered, class as u64], buffer, at)
+}
+
+// The last line with one number more, on how many sheets the two engines agreed.
+pub fn put_both_route_line(
+    sheets: u64,
+    answered: u64,
+    class: u8,
+    agreed: u64,
+    buffer: &mut [u8],
+    at: usize,
+) -> usize
+    ensures { λ r. ⌜ (r ≡ placeAfter (bothRouteLine sheets answered class agreed) at (now (buffer .entry))) × (now (buffer .exit) ≡ bufferAfter (bothRouteLine sheets answered class agreed) at (now (buffer .entry))) ⌝ }
+{
+    if !line_fits(buffer.len(), at) {
+        return at;
+    }
+    put_letter_line(
+        LETTER_R,
+        &[sheets, answered, class as u64, agreed],
+        buffer,
+        at,
+    )
 }
 
 // Puts a count at a place and answers the place after it; the same place, and nothing put, where 20 bytes do not fit.
@@ -111,7 +149,7 @@ pub fn fits(bytes: usize, at: usize, room: usize) -> bool
 }
 
 // Whether a line fits into a buffer of so many bytes from a place on.
-pub fn line_fits(bytes: usize, at: usize) -> bool
+fn line_fits(bytes: usize, at: usize) -> bool
     ensures { λ r. ⌜ r ≡ (at + lineBytes ≤ᵇ bytes) ⌝ }
 {
     fits(bytes, at, LINE_BYTES)
@@ -135,16 +173,41 @@ fn put_index_line(index: u64, numbers: [i32; COUNT], buffer: &mut [u8], at: usiz
     requires { ⌜ at + lineBytes ≤ length (now buffer) ⌝ }
     ensures { λ r. ⌜ Put (now (buffer .entry)) at (lineText (countText index) (map numberText numbers)) (now (buffer .exit)) r ⌝ }
 {
-    let first = put_count(index, buffer, at);
-    let last = put_numbers(numbers, buffer, first);
+    let last = put_indexed(index, numbers, buffer, at);
     buffer[last] = NEWLINE;
     last + 1
 }
 
-// A line of a letter and three counts.
-fn put_letter_line(letter: u8, counts: [u64; COUNTS], buffer: &mut [u8], at: usize) -> usize
+// The same with counts behind the numbers.
+fn put_longer_line(
+    index: u64,
+    numbers: [i32; COUNT],
+    plain: [u64; PLAIN],
+    buffer: &mut [u8],
+    at: usize,
+) -> usize
     requires { ⌜ at + lineBytes ≤ length (now buffer) ⌝ }
-    ensures { λ r. ⌜ Put (now (buffer .entry)) at (lineText (letter ∷ []) (map countText counts)) (now (buffer .exit)) r ⌝ }
+    ensures { λ r. ⌜ Put (now (buffer .entry)) at (lineText (countText index) (map numberText numbers ++ map countText plain)) (now (buffer .exit)) r ⌝ }
+{
+    let middle = put_indexed(index, numbers, buffer, at);
+    let last = put_counts(&plain, buffer, middle);
+    buffer[last] = NEWLINE;
+    last + 1
+}
+
+// An index, and the numbers of a sheet behind it.
+fn put_indexed(index: u64, numbers: [i32; COUNT], buffer: &mut [u8], at: usize) -> usize
+    requires { ⌜ at + 12 * numberCount + 36 ≤ length (now buffer) ⌝ }
+    ensures { λ r. ⌜ Put (now (buffer .entry)) at (countText index ++ spaced (map numberText numbers)) (now (buffer .exit)) r × (r ≤ at + 12 * numberCount + 20) ⌝ }
+{
+    let first = put_count(index, buffer, at);
+    put_numbers(numbers, buffer, first)
+}
+
+// A line of a letter and counts.
+fn put_letter_line(letter: u8, counts: &[u64], buffer: &mut [u8], at: usize) -> usize
+    requires { ⌜ at + 21 * length (now counts) + 2 ≤ length (now buffer) ⌝ }
+    ensures { λ r. ⌜ Put (now (buffer .entry)) at (lineText (letter ∷ []) (map countText (now (counts .entry)))) (now (buffer .exit)) r ⌝ }
 {
     buffer[at] = letter;
     let last = put_counts(counts, buffer, at + 1);
@@ -177,13 +240,13 @@ fn put_run(numbers: [i32; COUNT], from: usize, to: usize, buffer: &mut [u8], at:
 }
 
 // Counts, each behind one space.
-fn put_counts(counts: [u64; COUNTS], buffer: &mut [u8], at: usize) -> usize
-    requires { ⌜ at + 63 ≤ length (now buffer) ⌝ }
-    ensures { λ r. ⌜ Put (now (buffer .entry)) at (spaced (map countText counts)) (now (buffer .exit)) r × (r ≤ at + 63) ⌝ }
+fn put_counts(counts: &[u64], buffer: &mut [u8], at: usize) -> usize
+    requires { ⌜ at + 21 * length (now counts) ≤ length (now buffer) ⌝ }
+    ensures { λ r. ⌜ Put (now (buffer .entry)) at (spaced (map countText (now (counts .entry)))) (now (buffer .exit)) r × (r ≤ at + 21 * length (now (counts .entry))) ⌝ }
 {
     let mut end = at;
     let mut i: usize = 0;
-    while i < COUNTS {
+    while i < counts.len() {
         buffer[end] = SPACE;
         end = put_count(counts[i], buffer, end + 1);
         i += 1;

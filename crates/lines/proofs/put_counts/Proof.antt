@@ -12,31 +12,30 @@ use Rattle.lines.proofs.put_counts.Statement.{statement}
 use Rattle.lines.proofs.put_counts.Tie as tie
 
 abbrev Inv-loop : tie.InvT-loop
-Inv-loop buffer₀ at counts end₀ i₀ buffer end i =
-    (i ≤ 3) × (length counts ≡ 3) × (length buffer ≡ length buffer₀) × (end ≤ at + 21 * i) × Words countText counts buffer₀ at i buffer end
+Inv-loop counts buffer₀ at end₀ i₀ buffer end i =
+    (i ≤ length counts) × (length buffer ≡ length buffer₀) × (end ≤ at + 21 * i) × Words countText counts buffer₀ at i buffer end
 
 abbrev μ-loop : tie.MeasureT-loop
-μ-loop buffer₀ at counts end₀ i₀ buffer end i = 3 - i
+μ-loop counts buffer₀ at end₀ i₀ buffer end i = length counts - i
 
 loop-holds : tie.Need-loop-holds Inv-loop μ-loop
-loop-holds c = (omega arith, search needs, refl, omega arith, no-words countText (c .before .args .t1))
+loop-holds c = (omega arith, refl, omega arith, no-words countText (c .before .before .args .counts .now))
 
 loop-again : tie.Need-loop-again Inv-loop μ-loop
 loop-again c =
-    let counts = c .before .before .before .before .before .before .before .args .t1 in
-    let l = c .before .before .before .before .before .loop in (
+    let counts = c .before .before .before .before .before .before .before .before .before .args .counts .now in
+    let l = c .before .before .before .before .before .before .loop in (
       omega arith,
-      l .inv .1,
       omega (arith, length-set (l .buffer) (l .end) 32),
       omega arith,
-      next-word countText counts (l .i) 0 (l .inv .4) (c .before .before .put-count .ensures .0) (omega arith) (omega arith),
+      next-word countText counts (l .i) 0 (l .inv .3) (c .before .before .put-count .ensures .0) (omega arith) (omega arith),
     )
 
 returns : tie.Need-returns Inv-loop μ-loop
 returns c =
-    let counts = c .before .before .before .args .t1 in
+    let counts = c .before .before .before .before .args .counts .now in
     let l = c .before .loop in
-    (rw (take-all (l .i) counts (omega arith)) at (l .inv .4), omega arith)
+    (rw (take-all (l .i) counts (omega arith)) at (l .inv .3), omega arith)
 
 pub put-counts-spec : {M : Type 1} → statement M
 put-counts-spec =
@@ -46,12 +45,12 @@ put-counts-spec =
     μ-loop
     loop-holds
     (λ c. omega arith)
-    (λ c. omega arith)
+    (λ c. search needs)
     (λ c. omega arith)
     (λ c. omega arith)
     (λ c κs. simp length-set (omega arith))
     (λ c. omega arith)
     (λ c. omega arith)
     loop-again
-    (λ c. c .before .loop .inv .2)
+    (λ c. c .before .loop .inv .1)
     returns)

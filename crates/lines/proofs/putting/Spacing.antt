@@ -9,10 +9,14 @@ use lib.Seq.{take-suc, take-all}
 use Rattle.lines.specs.Lines.{space, spaced, Put}
 use Rattle.lines.proofs.putting.Placing.{put-none, put-on, then-byte}
 
-spaced-append : (first second : List (List ℕ)) → spaced (first ++ second) ≡ spaced first ++ spaced second
+pub spaced-append : (first second : List (List ℕ)) → spaced (first ++ second) ≡ spaced first ++ spaced second
 unfolding spaced
 spaced-append [] second = refl
 spaced-append (word ∷ first) second = rw (spaced-append first second, append-assoc)
+
+-- words behind others
+pub spaced-on : (first : List ℕ) (words more : List (List ℕ)) → (first ++ spaced words) ++ spaced more ≡ first ++ spaced (words ++ more)
+spaced-on first words more = rw (spaced-append, append-assoc)
 
 -- the first i of the words stand at a place, each behind one space
 abbrev pub Words : {A : Type 0} → (A → List ℕ) → List A → List ℕ → ℕ → ℕ → List ℕ → ℕ → Type 0

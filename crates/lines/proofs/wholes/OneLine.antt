@@ -1,15 +1,16 @@
 -- A line's text says its words: two lines with the same text have the same index and numbers, or the same counts.
 -- No word has a space or a newline in it, so each word ends at the first of them.
-use mathlib.Core.Path.{_≡_, refl, ap, ap₂}
-use mathlib.Core.List.{List, [], _∷_, _++_, map, append-assoc}
+use mathlib.Core.Path.{_≡_, refl, sym, ap, ap₂, _∙_}
+use mathlib.Core.List.{List, [], _∷_, _++_, map, map-append, append-assoc}
 use Prim.Native.Nat.{ℕ, suc, _≤_, _<_}
 use native.Mathlib.Omega.{arith}
 use lib.IntN.{ℤ, pos, negsuc}
-use lib.ListN.{getD}
+use lib.ListN.{length, getD}
 use Rattle.laws.specs.Each.{Each}
 use Rattle.lines.specs.Decimals.{countText, numberText}
-use Rattle.lines.specs.Lines.{space, newline, letterL, letterR, spaced, lineText, levelsLine, sheetLine, routeLine}
+use Rattle.lines.specs.Lines.{space, newline, letterL, letterR, spaced, lineText, levelsLine, sheetLine, bothLine, routeLine, bothRouteLine}
 use Rattle.laws.proofs.Each.{each-implied}
+use Rattle.laws.proofs.Never.{never}
 use Rattle.lines.proofs.decimals.Texts.{DigitByte, count-bytes, count-text-one, number-text-one}
 
 -- a word with neither a space nor a newline
@@ -72,6 +73,47 @@ unfolding sheetLine
 sheet-line-one i j numbers others e =
     let t = same-line numberText number-solid number-text-one (countText i) (countText j) numbers others (count-solid i) (count-solid j) e in
     (count-text-one i j (t .0), t .1)
+
+-- a count is a number without a sign
+as-numbers : (plain : List ℕ) → map countText plain ≡ map numberText (map pos plain)
+unfolding numberText
+as-numbers [] = refl
+as-numbers (n ∷ plain) = ap (λ (words : List (List ℕ)). countText n ∷ words) (as-numbers plain)
+
+all-numbers : (index : ℕ) (numbers : List ℤ) (plain : List ℕ) → bothLine index numbers plain ≡ sheetLine index (numbers ++ map pos plain)
+unfolding bothLine sheetLine
+all-numbers index numbers plain = rw (as-numbers plain, map-append)
+
+same-counts : (plain more : List ℕ) → map pos plain ≡ map pos more → plain ≡ more
+same-counts [] [] e = refl
+same-counts [] (m ∷ more) e = never cc
+same-counts (n ∷ plain) [] e = never cc
+same-counts (n ∷ plain) (m ∷ more) e =
+    let first : n ≡ m = cc in
+    ap₂ _∷_ first (same-counts plain more cc)
+
+same-parts : (numbers others behind-them behind-others : List ℤ) → length numbers ≡ length others → numbers ++ behind-them ≡ others ++ behind-others
+    → (numbers ≡ others) × (behind-them ≡ behind-others)
+same-parts [] [] p q n e = (refl, e)
+same-parts [] (y ∷ ys) p q n e = absurd (omega arith)
+same-parts (x ∷ xs) [] p q n e = absurd (omega arith)
+same-parts (x ∷ xs) (y ∷ ys) p q n e =
+    let first : x ≡ y = cc in
+    let t = same-parts xs ys p q (omega arith) cc in
+    (ap₂ _∷_ first (t .0), t .1)
+
+pub both-line-one : (i j : ℕ) (numbers others : List ℤ) (plain more : List ℕ) → length numbers ≡ length others
+    → bothLine i numbers plain ≡ bothLine j others more → (i ≡ j) × (numbers ≡ others) × (plain ≡ more)
+both-line-one i j numbers others plain more n e =
+    let t = sheet-line-one i j (numbers ++ map pos plain) (others ++ map pos more) (sym (all-numbers i numbers plain) ∙ e ∙ all-numbers j others more) in
+    let parts = same-parts numbers others (map pos plain) (map pos more) n (t .1) in
+    (t .0, parts .0, same-counts plain more (parts .1))
+
+pub both-route-line-one : (a b c d x y z w : ℕ) → bothRouteLine a b c d ≡ bothRouteLine x y z w → (a ≡ x) × (b ≡ y) × (c ≡ z) × (d ≡ w)
+unfolding bothRouteLine
+both-route-line-one a b c d x y z w e =
+    let t = same-line countText count-solid count-text-one (letterR ∷ []) (letterR ∷ []) (a ∷ b ∷ c ∷ d ∷ []) (x ∷ y ∷ z ∷ w ∷ []) (omega arith, tt) (omega arith, tt) e .1 in
+    (cc, cc, cc, cc)
 
 module _ (a b c x y z : ℕ) where
   -- a line of a letter and three counts
