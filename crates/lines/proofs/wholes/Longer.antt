@@ -1,5 +1,5 @@
 -- A line by both engines goes on where the worksheet's has its newline. By how words stand behind others.
-use mathlib.Core.Path.{_≡_, refl, sym, _∙_}
+use mathlib.Core.Path.{_≡_, refl}
 use mathlib.Core.List.{List, [], _∷_, _++_, map, append-assoc}
 use Prim.Native.Nat.{ℕ}
 use lib.IntN.{ℤ}
