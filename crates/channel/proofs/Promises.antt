@@ -1,7 +1,7 @@
 -- What the program promises, printing (section 10), showing (14.5), typing (14.3) and its worksheets (15). `TextPrinted` of specs/Printing.antt is what `print` ensures,
 -- `TextShown` of specs/Showing.antt what `show` does, `TypedOut` of specs/Typing.antt what `type_text` does, and `main` writes the rest that they leave; `printed` of specs/Text.antt and `shown` are the texts.
 use mathlib.Core.Path.{_≡_, ap, _∙_}
-use mathlib.Core.List.{List, [], _∷_, _++_, flatten}
+use mathlib.Core.List.{List, [], _∷_, _++_, map, flatten}
 use mathlib.Core.Bool.{false}
 use mathlib.Core.Logic.{_↔_, _≢_}
 use Prim.Native.Nat.{ℕ, _+_, _*_, _≤_, _<_, min}
@@ -14,11 +14,14 @@ use Rattle.class.specs.Classes.{routeClass}
 use Rattle.gauge.specs.Designing.{levelSteps}
 use Rattle.gauge.specs.declared.LevelRead.{LevelRead}
 use Rattle.record.specs.Counting.{greatest}
-use Rattle.lines.specs.Lines.{lineBytes}
+use Rattle.lines.specs.Decimals.{countText}
+use Rattle.lines.specs.Lines.{lineBytes, newline, spaced}
+use Rattle.lines.proofs.Promises.{both-line-longer, both-route-line-longer}
 use Rattle.design.specs.Design.{designAt}
-use Rattle.design.specs.Numbers.{codeOf}
+use Rattle.design.specs.Numbers.{codeOf, numbersOf}
 use Rattle.design.specs.Starred.{writing}
 use Rattle.design.proofs.Promises.{other-length-one}
+use Rattle.both.specs.Both.{bothOf}
 use Rattle.worksheet.specs.Framing.{pageBytes}
 use Rattle.texts.specs.Shown.{shownBytes, sheetBytes, shownText}
 use Rattle.texts.specs.Texts.{allOf}
@@ -26,13 +29,16 @@ use Rattle.texts.specs.Typed.{Faultless, typedBytes}
 use Rattle.channel.specs.Input.{Input, inputOf, Came}
 use Rattle.channel.specs.Output.{Lines, standing, withLines, written}
 use Rattle.channel.specs.Route.{noSheets}
-use Rattle.channel.specs.Text.{sheetsOf, recordTable, recordCounts, routeAfter, shipsOfAll, howManyAnswered, linesOf, printed}
+use Rattle.channel.specs.Text.{sheetsOf, recordTable, recordCounts, routeAfter, shipsOfAll, howManyAnswered, sheetLineIn, agreedAfter, howManyAgreed, routeLineOf, linesOf, printed}
 use Rattle.channel.specs.Printing.{fileBlock, inputBlock, TextPrinted}
 use Rattle.channel.specs.Showing.{shownTexts, textsOf, shown, TextShown}
 use Rattle.channel.specs.Typing.{anyFault, bytesOfSheets, TypedOut}
 use Rattle.channel.specs.Worksheets.{itemsOf, worksheetLines, worksheetsText, Accepted, OverRecord}
 use Rattle.channel.specs.Starred.{textOfS}
 use Rattle.channel.specs.declared.Text.the-variants.{Whole}
+use Rattle.channel.specs.declared.engines.Form.{Form}
+use Rattle.channel.specs.declared.engines.Form.the-variants.{Alone, Both}
+use Rattle.channel.specs.declared.route.Route.{Route}
 use Rattle.channel.specs.declared.worksheets.Source.{Source}
 use Rattle.channel.specs.declared.worksheets.Source.the-variants.{Typed}
 use Rattle.channel.proofs.Lines.{all-lines}
@@ -44,10 +50,10 @@ use Rattle.channel.proofs.Faults.{none-told-exactly}
 
 -- Whatever blocks the record and the sheets came in, the text is that of the record and the sheets: where the program came to its end, there are
 -- the blocks that it read, each to its end, and what was written, with the rest in the buffer, is what is printed of their bytes.
-pub text-is-printed : (buffer later : List ℕ) (rest : ℕ) → TextPrinted buffer (Whole rest) later
+pub text-is-printed : (form : Form) (buffer later : List ℕ) (rest : ℕ) → TextPrinted form buffer (Whole rest) later
     → (file : Input) × Came fileBlock file × ((input : Input) × Came inputBlock input
-    × (written lineBytes (linesOf (inputOf file) (inputOf input)) (record { at = 0; buffer = buffer }) ++ take rest later ≡ printed (inputOf file) (inputOf input)))
-text-is-printed buffer later rest ensured = ensured
+    × (written lineBytes (linesOf form (inputOf file) (inputOf input)) (record { at = 0; buffer = buffer }) ++ take rest later ≡ printed form (inputOf file) (inputOf input)))
+text-is-printed form buffer later rest ensured = ensured
 
 -- Lines are written in their order, each once, cut into writes anywhere: what was written and what stands in the buffer are what stood there and the lines.
 pub lines-in-order : (room : ℕ) (lines : List (List ℕ)) (l : Lines) → room ≤ length (l .buffer)
@@ -92,8 +98,23 @@ module _ (level : LevelRead) where
     pub route-class : routeAfter level noSheets sheets .class ≡ routeClass (shipsOfAll level sheets)
     route-class = the-route.smallest-class level sheets noSheets
 
+    -- By both engines, on how many sheets they agree.
+    pub agreed-counted : agreedAfter Both level 0 sheets ≡ min greatest (howManyAgreed level sheets)
+    agreed-counted = the-route.agreed-counted level sheets 0 (omega arith) ∙ ap (min greatest) (zero-add (howManyAgreed level sheets))
+
+-- By both engines the line of a sheet is as ever, with the plain engine's three numbers before its newline;
+pub line-as-ever : (index : ℕ) (sheet : List ℕ) (level : LevelRead)
+    → (text : List ℕ) × (sheetLineIn Alone index sheet level ≡ text ++ newline ∷ [])
+    × (sheetLineIn Both index sheet level ≡ text ++ (spaced (map countText (bothOf sheet level .plain)) ++ newline ∷ []))
+line-as-ever index sheet level = both-line-longer index (numbersOf (designAt sheet level)) (bothOf sheet level .plain)
+
+-- and that of the route, with on how many sheets they agree.
+pub route-as-ever : (route : Route) (agreed : ℕ)
+    → (text : List ℕ) × (routeLineOf Alone route agreed ≡ text ++ newline ∷ []) × (routeLineOf Both route agreed ≡ text ++ (spaced (countText agreed ∷ []) ++ newline ∷ []))
+route-as-ever route agreed = both-route-line-longer (route .sheets) (route .answered) (route .class) agreed
+
 -- The definition's sample, to the byte: case S, and no file.
-pub starred-text : printed [] (writing sheetS) ≡ textOfS
+pub starred-text : printed Alone [] (writing sheetS) ≡ textOfS
 starred-text = sample
 
 -- Whatever blocks bytes came in that are shown, the text is theirs, likewise.

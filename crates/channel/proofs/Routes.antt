@@ -1,4 +1,4 @@
--- The route after sheets: how many there are, how many have code 0, and the smallest class of those. By the list of sheets.
+-- The route after sheets: how many there are, how many have code 0, the smallest class of those, and on how many the engines agreed. By the list of sheets.
 use mathlib.Core.Path.{_≡_, refl, sym, ap, _∙_}
 use mathlib.Core.List.{List, [], _∷_, flatten, foldl, foldl-append}
 use Prim.Native.Nat.{ℕ, _+_, _≤_, min}
@@ -10,13 +10,17 @@ use Rattle.laws.proofs.Never.{never}
 use Rattle.class.specs.Classes.{withShip}
 use Rattle.gauge.specs.declared.LevelRead.{LevelRead}
 use Rattle.record.specs.Counting.{greatest}
+use Rattle.both.specs.Both.{bothOf}
+use Rattle.both.specs.declared.Verdict.{Verdict}
+use Rattle.both.specs.declared.Verdict.the-variants.{NotCome, Agreed, Differed}
 use Rattle.design.specs.Design.{designAt}
 use Rattle.design.specs.Numbers.{codeOf}
 use Rattle.design.specs.declared.Answer.{Answer}
 use Rattle.design.specs.declared.Answer.the-variants.{Answered, Refused}
 use Rattle.design.proofs.Promises.{zero-when-answered}
 use Rattle.channel.specs.Route.{withSheet, shipsOf}
-use Rattle.channel.specs.Text.{routeAfter, shipsOfAll, howManyAnswered}
+use Rattle.channel.specs.Text.{routeAfter, shipsOfAll, howManyAnswered, withVerdict, agreedAfter, oneIfAgreed, howManyAgreed}
+use Rattle.channel.specs.declared.engines.Form.the-variants.{Both}
 use Rattle.channel.specs.declared.route.Route.{Route}
 
 -- one sheet
@@ -33,6 +37,11 @@ one-class : (route : Route) (answer : Answer) → withSheet route answer .class 
 one-class route (Answered f) = refl
 one-class route (Refused r) = refl
 
+one-agreed : (agreed : ℕ) (verdict : Verdict) → agreed ≤ greatest → withVerdict agreed verdict ≡ min greatest (agreed + oneIfAgreed verdict)
+one-agreed agreed Agreed h = refl
+one-agreed agreed NotCome h = omega arith
+one-agreed agreed Differed h = omega arith
+
 module _ (level : LevelRead) where
   pub sheets-counted : (sheets : List (List ℕ)) (route : Route) → route .sheets ≤ greatest → routeAfter level route sheets .sheets ≡ min greatest (route .sheets + length sheets)
   unfolding routeAfter
@@ -48,6 +57,13 @@ module _ (level : LevelRead) where
   answered-counted (sheet ∷ sheets) route h =
       let answer = designAt sheet level in
       answered-counted sheets (withSheet route answer) (omega (arith, one-answered route answer h)) ∙ omega (arith, one-answered route answer h)
+
+  pub agreed-counted : (sheets : List (List ℕ)) (agreed : ℕ) → agreed ≤ greatest → agreedAfter Both level agreed sheets ≡ min greatest (agreed + howManyAgreed level sheets)
+  unfolding agreedAfter howManyAgreed
+  agreed-counted [] agreed h = omega arith
+  agreed-counted (sheet ∷ sheets) agreed h =
+      let verdict = bothOf sheet level .verdict in
+      agreed-counted sheets (withVerdict agreed verdict) (omega (arith, one-agreed agreed verdict h)) ∙ omega (arith, one-agreed agreed verdict h)
 
   pub smallest-class : (sheets : List (List ℕ)) (route : Route) → routeAfter level route sheets .class ≡ foldl withShip (route .class) (shipsOfAll level sheets)
   unfolding routeAfter flatten

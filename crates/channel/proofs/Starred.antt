@@ -25,8 +25,9 @@ use Rattle.lines.specs.Lines.{routeLine, sheetLine}
 use Rattle.lines.specs.Starred.{numbersOfS, lineOfS}
 use Rattle.lines.proofs.Promises.{starred-levels, starred-numbers, starred-sheet, starred-route}
 use Rattle.channel.specs.Route.{noSheets, withSheet}
-use Rattle.channel.specs.Text.{sheetsOf, recordCounts, recordTable, recordLevel, routeAfter, sheetLines, levelsLineOf, routeLineOf, printed}
+use Rattle.channel.specs.Text.{sheetsOf, recordCounts, recordTable, recordLevel, routeAfter, sheetLines, agreedAfter, levelsLineOf, routeLineOf, printed}
 use Rattle.channel.specs.Starred.{textOfS}
+use Rattle.channel.specs.declared.engines.Form.the-variants.{Alone}
 use Rattle.channel.specs.declared.route.Route.{Route}
 use Rattle.channel.proofs.Cuts.{next-sheet, no-sheet}
 
@@ -60,16 +61,16 @@ no-counts = refl
 
 -- the lines of one sheet, by the route that it makes
 abbrev text-by : Counts → Route → List ℕ
-text-by counts route = levelsLineOf counts ++ (sheetLine (route .sheets) (numbersOf answer) ++ (routeLineOf route ++ []))
+text-by counts route = levelsLineOf counts ++ (sheetLine (route .sheets) (numbersOf answer) ++ (routeLineOf Alone route 0 ++ []))
 
-one-sheet-text : printed [] bytes-s ≡ text-by (recordCounts []) (withSheet noSheets answer)
-unfolding printed sheetLines routeAfter flatten
+one-sheet-text : printed Alone [] bytes-s ≡ text-by (recordCounts []) (withSheet noSheets answer)
+unfolding printed sheetLines routeAfter agreedAfter flatten
 one-sheet-text =
     ap
-    (λ (sheets : List (List ℕ)). flatten (levelsLineOf (recordCounts []) ∷ (sheetLines (recordLevel []) noSheets sheets ++ routeLineOf (routeAfter (recordLevel []) noSheets sheets) ∷ [])))
+    (λ (sheets : List (List ℕ)). flatten (levelsLineOf (recordCounts []) ∷ (sheetLines Alone (recordLevel []) noSheets sheets ++ routeLineOf Alone (routeAfter (recordLevel []) noSheets sheets) (agreedAfter Alone (recordLevel []) 0 sheets) ∷ [])))
     one-sheet
 
-pub sample : printed [] bytes-s ≡ textOfS
+pub sample : printed Alone [] bytes-s ≡ textOfS
 sample =
     let route : withSheet noSheets answer ≡ record { sheets = 1; answered = 1; class = 0 } =
     routed answer (ap numbersOf (sym over-no-record) ∙ starred-numbers (recordTable [])) in

@@ -1,8 +1,10 @@
-// The program: sheets in, a line a sheet out (definition, section 10); the words type, show and form (section 14); and the worksheets (section 15).
+// The program: sheets in, a line a sheet out (definition, section 10); the words type, show and form (section 14); the worksheets (section 15); and the word both, by which
+// the plain engine's figures stand behind the worksheet's (section 16).
 ghost use Prim.Native.Nat.{_≤_};
 ghost use lib.ListN.{length};
 ghost use Rattle.lines.specs.Lines.{lineBytes};
 ghost use Rattle.channel.specs.Printing.{LinesPrinted, TextPrinted};
+use crate::engines::Form;
 use crate::levels::Loaded;
 use crate::reading::Task;
 use crate::worksheets::Source;
@@ -10,6 +12,7 @@ use gauge::LevelRead;
 use libc::STDERR_FILENO;
 use record::Counts;
 
+mod engines;
 mod input;
 mod levels;
 mod output;
@@ -55,7 +58,10 @@ fn of_word(words: usize, word: &[u8], buffer: &mut [u8]) -> Text
     requires { ⌜ 65536 ≤ length (now buffer) ⌝ }
 {
     if words < 2 {
-        return print(buffer);
+        return print(Form::Alone, buffer);
+    }
+    if same_word(word, b"both") {
+        return print(Form::Both, buffer);
     }
     if same_word(word, b"type") {
         return reading::of_input(Task::Type, buffer);
@@ -74,36 +80,36 @@ fn of_word(words: usize, word: &[u8], buffer: &mut [u8]) -> Text
     }
     io::write_all(
         STDERR_FILENO,
-        b"no such word: type, show, form, worksheet and worksheet-text are known\n",
+        b"no such word: both, type, show, form, worksheet and worksheet-text are known\n",
     );
     Text::Cut
 }
 
 // The text of the record and the sheets.
-fn print(buffer: &mut [u8]) -> Text
+fn print(form: Form, buffer: &mut [u8]) -> Text
     requires { ⌜ lineBytes ≤ length (now buffer) ⌝ }
-    ensures { λ r. ⌜ TextPrinted (now (buffer .entry)) r (now (buffer .exit)) ⌝ }
+    ensures { λ r. ⌜ TextPrinted form (now (buffer .entry)) r (now (buffer .exit)) ⌝ }
 {
     let mut table = [0u32; gauge::SLOTS];
     let loaded = levels::load(&mut table);
     match loaded {
-        Loaded::Counted(counts) => print_lines(gauge::design_level(&table), counts, buffer),
+        Loaded::Counted(counts) => print_lines(form, gauge::design_level(&table), counts, buffer),
         Loaded::NotRead => Text::Cut,
     }
 }
 
 // The record's line, the sheets' lines and the route's, written as the buffer fills but for the last of them.
-fn print_lines(level: LevelRead, counts: Counts, buffer: &mut [u8]) -> Text
+fn print_lines(form: Form, level: LevelRead, counts: Counts, buffer: &mut [u8]) -> Text
     requires { ⌜ lineBytes ≤ length (now buffer) ⌝ }
-    ensures { λ r. ⌜ LinesPrinted level counts (now (buffer .entry)) r (now (buffer .exit)) ⌝ }
+    ensures { λ r. ⌜ LinesPrinted form level counts (now (buffer .entry)) r (now (buffer .exit)) ⌝ }
 {
     let at = lines::put_levels_line(counts.added, counts.missing, counts.refused, buffer, 0);
-    let printed = sheets::print_all(level, buffer, at);
+    let printed = sheets::print_all(form, level, buffer, at);
     if !printed.whole {
         output::cut_short(buffer, printed.state.out);
         return Text::Cut;
     }
-    let last = sheets::print_route(buffer, printed.state);
+    let last = sheets::print_route(form, buffer, printed.state);
     if last.open {
         return Text::Whole(last.at);
     }

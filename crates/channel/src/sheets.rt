@@ -4,6 +4,8 @@ ghost use Prim.Native.Nat.{_+_, _-_, _<_, min};
 ghost use mathlib.Core.List.{[], _∷_};
 ghost use Rattle.channel.specs.Text.{sheetsOf};
 ghost use Rattle.channel.specs.Printing.{progress, sheetsPrinted, printedCount, BlockPrinted, AllPrinted, RoutePrinted};
+use crate::engines;
+use crate::engines::Form;
 use crate::input;
 use crate::input::Filled;
 use crate::output;
@@ -18,29 +20,36 @@ pub const BLOCK: usize = 65520;
 
 const SHEET: usize = 28;
 
-// The lines so far, and the route.
+// The lines so far, the route, and on how many of its sheets the two engines agreed.
 pub struct State {
     pub out: Out,
     pub route: Route,
+    pub agreed: u64,
 }
 
 // The line of one sheet.
-fn print_sheet(level: LevelRead, sheet: &[u8], buffer: &mut [u8], state: State) -> State
-    ensures { λ r. ⌜ progress r (now (buffer .exit)) ≡ sheetsPrinted level (now (sheet .entry) ∷ []) (progress state (now (buffer .entry))) ⌝ }
+fn print_sheet(form: Form, level: LevelRead, sheet: &[u8], buffer: &mut [u8], state: State) -> State
+    ensures { λ r. ⌜ progress r (now (buffer .exit)) ≡ sheetsPrinted form level (now (sheet .entry) ∷ []) (progress state (now (buffer .entry))) ⌝ }
 {
     let so_far = state.route;
     let out = state.out;
     let ready = output::made_ready(buffer, out, lines::LINE_BYTES);
-    let answer = design::design_at(sheet, level);
+    let worked = engines::worked(form, sheet, level);
+    let answer = worked.answer;
+    let plain = worked.plain;
+    let verdict = worked.verdict;
     let route = route::with_sheet(so_far, answer);
     let numbers = design::numbers(answer);
-    let after = lines::put_sheet_line(route.sheets, numbers, buffer, ready.at);
+    let after = engines::put_line(form, route.sheets, numbers, plain, buffer, ready.at);
+    let agreed = engines::with_verdict(state.agreed, verdict);
+    engines::tell(route.sheets, verdict);
     State {
         out: Out {
             at: after,
             open: ready.open,
         },
         route,
+        agreed,
     }
 }
 
@@ -56,14 +65,14 @@ pub fn sheet_end(from: usize, bytes: usize) -> usize
 }
 
 // The lines of the sheets of a block.
-fn print_block(level: LevelRead, block: &[u8], buffer: &mut [u8], state: State) -> State
-    ensures { λ r. ⌜ progress r (now (buffer .exit)) ≡ sheetsPrinted level (sheetsOf (now (block .entry))) (progress state (now (buffer .entry))) ⌝ }
+fn print_block(form: Form, level: LevelRead, block: &[u8], buffer: &mut [u8], state: State) -> State
+    ensures { λ r. ⌜ progress r (now (buffer .exit)) ≡ sheetsPrinted form level (sheetsOf (now (block .entry))) (progress state (now (buffer .entry))) ⌝ }
 {
     let mut now = state;
     let mut from: usize = 0;
     while from < block.len() {
         let to = sheet_end(from, block.len());
-        now = print_sheet(level, &block[from..to], &mut *buffer, now);
+        now = print_sheet(form, level, &block[from..to], &mut *buffer, now);
         from = to;
     }
     now
@@ -86,12 +95,18 @@ struct Turn {
 }
 
 // One block of the input, full or to its end, in a space that is made once for all blocks.
-fn print_some(level: LevelRead, space: &mut [u8], buffer: &mut [u8], state: State) -> Turn
-    ensures { λ r. ⌜ BlockPrinted level (progress state (now (buffer .entry))) r (now (space .exit)) (now (buffer .exit)) ⌝ }
+fn print_some(
+    form: Form,
+    level: LevelRead,
+    space: &mut [u8],
+    buffer: &mut [u8],
+    state: State,
+) -> Turn
+    ensures { λ r. ⌜ BlockPrinted form level (progress state (now (buffer .entry))) r (now (space .exit)) (now (buffer .exit)) ⌝ }
 {
     let filled = input::fill(STDIN_FILENO, &mut *space);
     let count = printed_of(filled);
-    let after = print_block(level, &space[..count], buffer, state);
+    let after = print_block(form, level, &space[..count], buffer, state);
     Turn {
         state: after,
         filled,
@@ -105,13 +120,14 @@ pub struct Sheets {
 }
 
 // Every sheet of standard input, from a place of the buffer on.
-pub fn print_all(level: LevelRead, buffer: &mut [u8], at: usize) -> Sheets
-    ensures { λ r. ⌜ AllPrinted level at (now (buffer .entry)) r (now (buffer .exit)) ⌝ }
+pub fn print_all(form: Form, level: LevelRead, buffer: &mut [u8], at: usize) -> Sheets
+    ensures { λ r. ⌜ AllPrinted form level at (now (buffer .entry)) r (now (buffer .exit)) ⌝ }
 {
     let route = route::no_sheets();
     let mut state = State {
         out: Out { at, open: true },
         route,
+        agreed: 0,
     };
     let mut space = [0u8; BLOCK];
     let mut more = true;
@@ -125,7 +141,7 @@ pub fn print_all(level: LevelRead, buffer: &mut [u8], at: usize) -> Sheets
             };
         }
         turns -= 1;
-        let turn = print_some(level, &mut space, &mut *buffer, state);
+        let turn = print_some(form, level, &mut space, &mut *buffer, state);
         let after = turn.state;
         let filled = turn.filled;
         let out = after.out;
@@ -137,13 +153,13 @@ pub fn print_all(level: LevelRead, buffer: &mut [u8], at: usize) -> Sheets
 }
 
 // The route's line behind those of the sheets.
-pub fn print_route(buffer: &mut [u8], state: State) -> Out
-    ensures { λ r. ⌜ RoutePrinted state (now (buffer .entry)) (r .at) (now (buffer .exit)) ⌝ }
+pub fn print_route(form: Form, buffer: &mut [u8], state: State) -> Out
+    ensures { λ r. ⌜ RoutePrinted form state (now (buffer .entry)) (r .at) (now (buffer .exit)) ⌝ }
 {
     let route = state.route;
     let out = state.out;
     let ready = output::made_ready(buffer, out, lines::LINE_BYTES);
-    let after = lines::put_route_line(route.sheets, route.answered, route.class, buffer, ready.at);
+    let after = engines::put_route(form, route, state.agreed, buffer, ready.at);
     Out {
         at: after,
         open: ready.open,

@@ -17,8 +17,8 @@ returns c =
     let known = designed .before .before .before in
     let load = known .before .before .before in
     let start = load .before .before .before in
-    text-whole (now (start .args .buffer)) (start .pre) (load .load .last .0) (known .loaded .given .0 .0) (designed .design-level .result)
-    (lines .print-lines .result) (lines .print-lines .last .1 .1 .0)
+    text-whole (start .args .form) (now (start .args .buffer)) (start .pre) (load .load .last .0) (known .loaded .given .0 .0) (designed .design-level .result)
+    (lines .print-lines .result) (lines .print-lines .last .1 .1 .1 .0)
     (subst (λ (l : Loaded). AllLoaded emptyTable l (load .load .last .0)) (known .loaded .given .1) (load .load .ensures)) (designed .design-level .ensures)
     (lines .print-lines .ensures)
 

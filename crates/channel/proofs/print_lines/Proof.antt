@@ -13,8 +13,8 @@ returns-2 c =
     let printed = whole .before .before .before .before in
     let put = printed .before .before .before .before in
     let start = put .before .before .before in
-    lines-put (now (start .args .buffer)) (start .pre) (start .args .level) (start .args .counts) (put .put-levels-line .result) (put .put-levels-line .last .1 .1 .1 .0)
-    (printed .print-all .result .state) (printed .print-all .last .1 .0) (routed .print-route .result .at) (routed .print-route .last .0)
+    lines-put (start .args .form) (now (start .args .buffer)) (start .pre) (start .args .level) (start .args .counts) (put .put-levels-line .result) (put .put-levels-line .last .1 .1 .1 .0)
+    (printed .print-all .result .state) (printed .print-all .last .1 .1 .0) (routed .print-route .result .at) (routed .print-route .last .1 .0)
     (put .put-levels-line .ensures .0) (put .put-levels-line .ensures .1) (printed .print-all .ensures (not-false _ (whole .if1 .left))) (routed .print-route .ensures)
 
 pub print-lines-spec : {M : Type 1} → statement M

@@ -15,16 +15,16 @@ use Rattle.channel.proofs.sheets.print_all.Statement.{statement}
 use Rattle.channel.proofs.sheets.print_all.Tie as tie
 
 abbrev Inv-loop : tie.InvT-loop
-Inv-loop level buffer₀ at state₀ space₀ more₀ whole₀ turns₀ buffer state space more whole turns =
+Inv-loop form level buffer₀ at state₀ space₀ more₀ whole₀ turns₀ buffer state space more whole turns =
     (length buffer ≡ length buffer₀)
     × (length space ≡ inputBlock)
-    × Reading inputBlock (InputPrinted level (atFirst at buffer₀) (progress state buffer)) more whole
+    × Reading inputBlock (InputPrinted form level (atFirst at buffer₀) (progress state buffer)) more whole
 
 abbrev μ-loop : tie.MeasureT-loop
-μ-loop level buffer₀ at state₀ space₀ more₀ whole₀ turns₀ buffer state space more whole turns = turns
+μ-loop form level buffer₀ at state₀ space₀ more₀ whole₀ turns₀ buffer state space more whole turns = turns
 
 loop-holds : tie.Need-loop-holds Inv-loop μ-loop
-loop-holds c = let a = c .before .before .args in (refl, length-replicate {A = ℕ} 65520 0, begun-at (a .level) (c .no-sheets .result) (a .at) (now (a .buffer)) (c .no-sheets .ensures))
+loop-holds c = let a = c .before .before .args in (refl, length-replicate {A = ℕ} 65520 0, begun-at (a .form) (a .level) (c .no-sheets .result) (a .at) (now (a .buffer)) (c .no-sheets .ensures))
 
 returns : tie.Need-returns Inv-loop μ-loop
 returns c = λ w. absurd (true≢false (sym w))
@@ -35,10 +35,10 @@ loop-again c =
     let l = called .before .before .before .before .before .loop in
     let a = called .before .before .before .before .before .before .before .before .args in
     let some = called .print-some in (
+      omega (arith, some .kept .1 .1 .1 .0),
       omega (arith, some .kept .1 .1 .0),
-      omega (arith, some .kept .1 .0),
-      taken-on (printing (a .level)) (atFirst (a .at) (now (a .buffer))) (progress (l .state) (l .buffer)) (progress (some .result .state) (some .last .1 .1 .0))
-          (some .result .filled) (some .last .1 .0) (some .ensures .filling) (some .ensures .sheets-printed) (some .result .state .out .«open») (c .before .is-whole .result) (c .goes-on .result) (omega (arith, some .kept .1 .0))
+      taken-on (printing (a .form) (a .level)) (atFirst (a .at) (now (a .buffer))) (progress (l .state) (l .buffer)) (progress (some .result .state) (some .last .1 .1 .1 .0))
+          (some .result .filled) (some .last .1 .1 .0) (some .ensures .filling) (some .ensures .sheets-printed) (some .result .state .out .«open») (c .before .is-whole .result) (c .goes-on .result) (omega (arith, some .kept .1 .1 .0))
           (still inputBlock _ (l .more) (l .whole) (l .inv .2) (called .before .before .before .before .loop-test .taken))
           (c .before .is-whole .ensures) (c .goes-on .ensures),
     )

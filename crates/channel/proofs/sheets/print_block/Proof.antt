@@ -13,13 +13,13 @@ use Rattle.channel.proofs.sheets.print_block.Statement.{statement}
 use Rattle.channel.proofs.sheets.print_block.Tie as tie
 
 abbrev Inv-loop : tie.InvT-loop
-Inv-loop level block buffer₀ now₀ from₀ buffer now from =
+Inv-loop form level block buffer₀ now₀ from₀ buffer now from =
     (from ≤ length block)
     × (length buffer ≡ length buffer₀)
-    × (sheetsPrinted level (sheetsOf (drop from block)) (progress now buffer) ≡ sheetsPrinted level (sheetsOf block) (progress now₀ buffer₀))
+    × (sheetsPrinted form level (sheetsOf (drop from block)) (progress now buffer) ≡ sheetsPrinted form level (sheetsOf block) (progress now₀ buffer₀))
 
 abbrev μ-loop : tie.MeasureT-loop
-μ-loop level block buffer₀ now₀ from₀ buffer now from = length block - from
+μ-loop form level block buffer₀ now₀ from₀ buffer now from = length block - from
 
 loop-again : tie.Need-loop-again Inv-loop μ-loop
 loop-again c =
@@ -29,7 +29,7 @@ loop-again c =
     let a = turn .before .before .before .before .before .args in (
       omega (arith, turn .sheet-end .ensures),
       omega arith,
-      sym (sheet-more (printing (a .level)) (now (a .block)) (l .from) (turn .sheet-end .result) (progress (l .now) (l .buffer)) _ (turn .before .loop-test .taken)
+      sym (sheet-more (printing (a .form) (a .level)) (now (a .block)) (l .from) (turn .sheet-end .result) (progress (l .now) (l .buffer)) _ (turn .before .loop-test .taken)
           (turn .sheet-end .ensures) (called .print-sheet .ensures))
           ∙ l .inv .2,
     )
@@ -38,7 +38,7 @@ returns : tie.Need-returns Inv-loop μ-loop
 returns c =
     let l = c .before .loop in
     let a = c .before .before .before .before .args in
-    sym (none-more (printing (a .level)) (now (a .block)) (l .from) (progress (l .now) (l .buffer)) (c .loop-test .left)) ∙ l .inv .2
+    sym (none-more (printing (a .form) (a .level)) (now (a .block)) (l .from) (progress (l .now) (l .buffer)) (c .loop-test .left)) ∙ l .inv .2
 
 pub print-block-spec : {M : Type 1} → statement M
 print-block-spec =

@@ -26,7 +26,7 @@ returns c =
     let count = c .before .before .before .before .before .printed-of in
     record {
       filling = subst (Filling (fill .result)) (sym (fill .kept .1 .0)) (fill .ensures);
-      sheets-printed = count-taken (printing _) _ _ (fill .last .1 .0) _ _ (printed .ensures) (count .ensures);
+      sheets-printed = count-taken (printing _ _) _ _ (fill .last .1 .0) _ _ (printed .ensures) (count .ensures);
     }
 
 pub print-some-spec : {M : Type 1} → statement M

@@ -1,0 +1,110 @@
+// The two forms of the printed text: what is worked of a sheet in each, its line, and the route's line.
+ghost use mathlib.Core.Path.{_≡_};
+ghost use Rattle.lines.specs.Lines.{placeAfter, bufferAfter};
+ghost use Rattle.channel.specs.Text.{withVerdict, routeLineOf};
+ghost use Rattle.channel.specs.Printing.{workedIn, lineIn};
+ghost use Rattle.channel.specs.declared.engines.Form.the-variants.{Alone};
+use crate::output;
+use crate::route::Route;
+use both::Both;
+use both::Verdict;
+use gauge::LevelRead;
+use libc::STDERR_FILENO;
+
+// The worksheet's figures alone, or the plain engine's behind them.
+pub enum Form {
+    Alone,
+    Both,
+}
+
+// The bytes of the message that names a sheet: its words have 50, and its index at most 20.
+const MESSAGE: usize = 70;
+
+// The worksheet's answer, with none of the plain engine's figures.
+fn alone(sheet: &[u8], level: LevelRead) -> Both
+    ensures { λ r. ⌜ r ≡ workedIn Alone (now (sheet .entry)) level ⌝ }
+{
+    let answer = design::design_at(sheet, level);
+    Both {
+        answer,
+        plain: [0, 0, 0],
+        verdict: Verdict::NotCome,
+    }
+}
+
+// What is worked of a sheet.
+pub fn worked(form: Form, sheet: &[u8], level: LevelRead) -> Both
+    ensures { λ r. ⌜ r ≡ workedIn form (now (sheet .entry)) level ⌝ }
+{
+    match form {
+        Form::Alone => alone(sheet, level),
+        Form::Both => both::design_both(sheet, level),
+    }
+}
+
+// The line of a sheet.
+pub fn put_line(
+    form: Form,
+    index: u64,
+    numbers: [i32; design::COUNT],
+    plain: [u64; 3],
+    buffer: &mut [u8],
+    at: usize,
+) -> usize
+    ensures { λ r. ⌜ (r ≡ placeAfter (lineIn form index numbers plain) at (now (buffer .entry))) × (now (buffer .exit) ≡ bufferAfter (lineIn form index numbers plain) at (now (buffer .entry))) ⌝ }
+{
+    match form {
+        Form::Alone => lines::put_sheet_line(index, numbers, buffer, at),
+        Form::Both => lines::put_both_line(index, numbers, plain, buffer, at),
+    }
+}
+
+// The line of a route.
+pub fn put_route(form: Form, route: Route, agreed: u64, buffer: &mut [u8], at: usize) -> usize
+    ensures { λ r. ⌜ (r ≡ placeAfter (routeLineOf form route agreed) at (now (buffer .entry))) × (now (buffer .exit) ≡ bufferAfter (routeLineOf form route agreed) at (now (buffer .entry))) ⌝ }
+{
+    match form {
+        Form::Alone => lines::put_route_line(route.sheets, route.answered, route.class, buffer, at),
+        Form::Both => lines::put_both_route_line(
+            route.sheets,
+            route.answered,
+            route.class,
+            agreed,
+            buffer,
+            at,
+        ),
+    }
+}
+
+// On how many sheets the two engines agreed, with one more.
+pub fn with_verdict(agreed: u64, verdict: Verdict) -> u64
+    ensures { λ r. ⌜ r ≡ withVerdict agreed verdict ⌝ }
+{
+    match verdict {
+        Verdict::Agreed => record::one_more(agreed),
+        Verdict::NotCome => agreed,
+        Verdict::Differed => agreed,
+    }
+}
+
+// Names a sheet on standard error.
+fn tell_sheet(index: u64) {
+    let mut message = [0u8; MESSAGE];
+    let named = lines::put_bytes(b"sheet ", &mut message, 0);
+    let numbered = lines::put_decimal(index, &mut message, named);
+    let end = lines::put_bytes(
+        b": the worksheet and the plain engine differ\n",
+        &mut message,
+        numbered,
+    );
+    output::write_first(STDERR_FILENO, &message, end);
+}
+
+// Tells of a sheet on which the two engines differ.
+pub fn tell(index: u64, verdict: Verdict) {
+    match verdict {
+        Verdict::Differed => tell_sheet(index),
+        Verdict::NotCome => {}
+        Verdict::Agreed => {}
+    }
+}
