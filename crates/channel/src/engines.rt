@@ -47,7 +47,7 @@ pub fn put_line(
     form: Form,
     index: u64,
     numbers: [i32; design::COUNT],
-    plain: [u64; 3],
+    plain: [u64; engine::PLAIN_COUNT],
     buffer: &mut [u8],
     at: usize,
 ) -> usize

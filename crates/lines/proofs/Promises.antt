@@ -12,6 +12,7 @@ use mir.Val.{SFits}
 use Rattle.laws.specs.Choice.{_≤ᵇ_}
 use Rattle.laws.proofs.Unique.{one-answer}
 use Rattle.laws.specs.Each.{Each}
+use Rattle.engine.specs.Beside.{plainCount}
 use Rattle.lines.specs.Decimals.{digits, valueOf, Decimal, minus, countText, numberText}
 use Rattle.sheet.specs.CaseS.{sheetS}
 use Rattle.sheet.specs.Packing.{Bytes}
@@ -20,7 +21,7 @@ use Rattle.design.specs.Numbers.{numberCount, numbersOf}
 use Rattle.design.specs.Starred.{writing}
 use Rattle.design.proofs.Promises.{all-numbers, numbers-fit}
 use Rattle.lines.specs.Starred.{numbersOfS, lineOfS}
-use Rattle.lines.specs.Lines.{newline, spaced, levelsLine, sheetLine, bothLine, routeLine, bothRouteLine, plainCount, lineBytes, countBytes, numberBytes, placeWithin, bufferWithin, placeAfter, bufferAfter, Put}
+use Rattle.lines.specs.Lines.{newline, spaced, levelsLine, sheetLine, bothLine, routeLine, bothRouteLine, lineBytes, countBytes, numberBytes, placeWithin, bufferWithin, placeAfter, bufferAfter, Put}
 use Rattle.lines.proofs.decimals.Meaning.{digits-value, digits-decimal, decimal-only}
 use Rattle.lines.proofs.decimals.Texts.{count-text-one, number-text-one, minus-negative}
 use Rattle.lines.proofs.wholes.OneLine.{sheet-line-one, both-line-one, levels-line-one, route-line-one, both-route-line-one}

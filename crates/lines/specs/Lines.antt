@@ -5,6 +5,7 @@ use mathlib.Core.List.{List, [], _∷_, _++_, map}
 use lib.IntN.{ℤ}
 use lib.ListN.{length, take, drop}
 use Rattle.laws.specs.Choice.{if_then_else_, _≤ᵇ_}
+use Rattle.engine.specs.Beside.{plainCount}
 use Rattle.design.specs.Numbers.{numberCount}
 use Rattle.lines.specs.Decimals.{countText, numberText}
 
@@ -49,10 +50,6 @@ routeLine sheets answered class = lineText (letterR ∷ []) (map countText (shee
 -- the last line by both engines: on how many sheets they agreed behind it
 unfoldable pub bothRouteLine : ℕ → ℕ → ℕ → ℕ → List ℕ
 bothRouteLine sheets answered class agreed = lineText (letterR ∷ []) (map countText (sheets ∷ answered ∷ class ∷ agreed ∷ []))
-
--- how many numbers the plain engine has
-abbrev pub plainCount : ℕ
-plainCount = 3
 
 -- the bytes that a line is given: none has more than 12 for each number of a sheet, 21 for each of the plain engine's, and 21 for its index and the newline
 abbrev pub lineBytes : ℕ

@@ -9,12 +9,10 @@ ghost use Rattle.design.specs.Numbers.{numberCount};
 ghost use Rattle.lines.specs.Decimals.{digits, countText, numberText};
 ghost use Rattle.lines.specs.Lines.{lineBytes, spaced, lineText, sheetLine, bothLine, levelsLine, routeLine, bothRouteLine, countBytes, numberBytes, placeWithin, bufferWithin, placeAfter, bufferAfter, Put};
 use design::COUNT;
-
-// The figures of the plain engine.
-const PLAIN: usize = 3;
+use engine::PLAIN_COUNT;
 
 // The bytes that a line is given: the longest has 12 for each number of a sheet, 21 for each of the plain engine's, and 21 for its index and the newline.
-pub const LINE_BYTES: usize = 12 * COUNT + 21 * PLAIN + 21;
+pub const LINE_BYTES: usize = 12 * COUNT + 21 * PLAIN_COUNT + 21;
 
 // The bytes that a count is given.
 const COUNT_BYTES: usize = 20;
@@ -48,7 +46,7 @@ pub fn put_sheet_line(index: u64, numbers: [i32; COUNT], buffer: &mut [u8], at: 
 pub fn put_both_line(
     index: u64,
     numbers: [i32; COUNT],
-    plain: [u64; PLAIN],
+    plain: [u64; PLAIN_COUNT],
     buffer: &mut [u8],
     at: usize,
 ) -> usize
@@ -182,7 +180,7 @@ fn put_index_line(index: u64, numbers: [i32; COUNT], buffer: &mut [u8], at: usiz
 fn put_longer_line(
     index: u64,
     numbers: [i32; COUNT],
-    plain: [u64; PLAIN],
+    plain: [u64; PLAIN_COUNT],
     buffer: &mut [u8],
     at: usize,
 ) -> usize

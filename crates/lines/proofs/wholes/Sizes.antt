@@ -9,9 +9,10 @@ use lib.ListN.{length, length-append, length-map}
 use mir.Syntax.{w32}
 use mir.Val.{SFits}
 use Rattle.laws.specs.Each.{Each}
+use Rattle.engine.specs.Beside.{plainCount}
 use Rattle.lines.specs.Decimals.{countText, numberText}
 use Rattle.design.specs.Numbers.{numberCount}
-use Rattle.lines.specs.Lines.{spaced, levelsLine, sheetLine, bothLine, routeLine, bothRouteLine, plainCount, lineBytes}
+use Rattle.lines.specs.Lines.{spaced, levelsLine, sheetLine, bothLine, routeLine, bothRouteLine, lineBytes}
 use Rattle.laws.proofs.Each.{each-map}
 use Rattle.lines.proofs.putting.Counting.{count-at-most}
 use Rattle.lines.proofs.putting.Signs.{number-at-most}
