@@ -73,7 +73,7 @@ pub fn z1(inputs: &Inputs) -> i64 {
     rounded_up(inputs.draft * (4 + inputs.soil), 100)
 }
 
-/// "One lane reads lone, two read passing." None where the table has no entry.
+/// "One lane reads lone, two read passing." None where the table has no entry, or not the speed.
 pub fn z3(inputs: &Inputs, column: Column) -> Option<i64> {
     let row = match (column, inputs.lanes) {
         (Column::A, 1) => SQUAT[0],
@@ -83,7 +83,7 @@ pub fn z3(inputs: &Inputs, column: Column) -> Option<i64> {
         (Column::C, 1) => SQUAT[4],
         (Column::C, _) => SQUAT[5],
     };
-    let entry = row[(inputs.speed - 2) as usize];
+    let entry = *row.get(usize::try_from(inputs.speed - 2).ok()?)?;
     if entry == NONE {
         None
     } else {
@@ -231,4 +231,27 @@ pub fn worksheet(inputs: &Inputs) -> Worksheet {
 /// Why there is no cut.
 pub fn reason(inputs: &Inputs) -> u32 {
     worksheet(inputs).cut.err().unwrap_or(0)
+}
+
+/// A depth in three numbers: its refusal, 0 where it has a cut, its sailing depth and its cut, 0 where it has none.
+pub type Numbers = [i64; 3];
+
+/// The plain engine: "tries each cut from 1 to 3,000", "takes the first that meets" the definition, "and finds its reason
+/// for a refusal from the column rules".
+pub fn by_tries(inputs: &Inputs) -> Numbers {
+    let Some(cut) = cut(inputs) else {
+        return [i64::from(reason(inputs)), 0, 0];
+    };
+    let s = sailing_depth(inputs, column_of(inputs, cut));
+    [0, s.expect("a cut's column has an entry"), cut]
+}
+
+/// The worksheet: the cut that it ends in, and the s of its last try.
+pub fn by_worksheet(inputs: &Inputs) -> Numbers {
+    let worksheet = worksheet(inputs);
+    let s = worksheet.tries.last().map_or(0, |last| last.s);
+    match worksheet.cut {
+        Ok(cut) => [0, s, cut],
+        Err(number) => [i64::from(number), 0, 0],
+    }
 }

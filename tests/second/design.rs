@@ -64,8 +64,11 @@ pub fn under_three_beams(sheet: &Sheet) -> bool {
     sheet.length() < 3 * sheet.beam()
 }
 
-/// "A design checks 1, 2, 3, then 18, then 4 to 8, then the depth's 13, 14, 15", then 16 and 17.
-fn work(bytes: &[u8], record: Result<i32, u32>) -> Result<Answer, Refusal> {
+/// "A design checks 1, 2, 3, then 18, then 4 to 8": the sheet, and what its depth is worked from.
+fn come_to_depth(
+    bytes: &[u8],
+    record: Result<i32, u32>,
+) -> Result<(Sheet, depth::Inputs), Refusal> {
     let sheet = read(bytes)?;
     if under_three_beams(&sheet) {
         return Err(refusal(18));
@@ -77,8 +80,20 @@ fn work(bytes: &[u8], record: Result<i32, u32>) -> Result<Answer, Refusal> {
     if width::no_entry(&sheet) {
         return Err(refusal(8));
     }
-    let lanes = width::lanes(&sheet);
-    let inputs = depth::Inputs::of(&sheet, level, lanes);
+    let inputs = depth::Inputs::of(&sheet, level, width::lanes(&sheet));
+    Ok((sheet, inputs))
+}
+
+/// What the depth is worked from, where no number before the depth's turns the sheet away.
+pub fn depth_inputs(bytes: &[u8], record: Result<i32, u32>) -> Option<depth::Inputs> {
+    let (_, inputs) = come_to_depth(bytes, record).ok()?;
+    Some(inputs)
+}
+
+/// "Then the depth's 13, 14, 15", then 16 and 17.
+fn work(bytes: &[u8], record: Result<i32, u32>) -> Result<Answer, Refusal> {
+    let (sheet, inputs) = come_to_depth(bytes, record)?;
+    let (level, lanes) = (inputs.level, inputs.lanes);
     let cut = depth::cut(&inputs).ok_or_else(|| refusal(depth::reason(&inputs)))?;
     // "The s of that column is the sailing depth."
     let column = depth::column_of(&inputs, cut);

@@ -1,5 +1,5 @@
-//! `second`: with no argument, the printing program; with `type`, `show` or `form`, the typed sheet's commands; with
-//! `worksheet` or `worksheet-text`, the pages that are signed; with `figures`, the definition's figures.
+//! `second`: with no argument, the printing program; with `both`, its second form; with `type`, `show` or `form`, the typed
+//! sheet's commands; with `worksheet` or `worksheet-text`, the pages that are signed; with `figures`, the definition's figures.
 
 mod figures;
 #[path = "second.rs"]
@@ -28,6 +28,14 @@ fn print() -> io::Result<()> {
     let levels = levels_file()?;
     let text = second::print::text(levels.as_deref(), &standard_input()?);
     io::stdout().write_all(text.as_bytes())
+}
+
+/// Sheets on which the engines differ are told on standard error and, as by a proved program, not by the status.
+fn print_both() -> io::Result<()> {
+    let levels = levels_file()?;
+    let (text, said) = second::print::both(levels.as_deref(), &standard_input()?);
+    io::stdout().write_all(text.as_bytes())?;
+    io::stderr().write_all(said.as_bytes())
 }
 
 /// A text with a fault is told on standard error and, as by a proved program, not by the status.
@@ -62,6 +70,7 @@ fn main() -> ExitCode {
     let words: Vec<&str> = arguments.iter().map(String::as_str).collect();
     let right = match words[..] {
         [] => is_done(print()),
+        ["both"] => is_done(print_both()),
         ["type"] => is_done(type_text()),
         ["show"] => is_done(show()),
         ["form"] => is_done(form()),
@@ -70,7 +79,7 @@ fn main() -> ExitCode {
         ["figures"] => figures::all_right() & typed_figures::all_right(),
         _ => {
             eprintln!(
-                "second: no argument, `type`, `show`, `form`, `worksheet`, `worksheet-text` or `figures`"
+                "second: no argument, `both`, `type`, `show`, `form`, `worksheet`, `worksheet-text` or `figures`"
             );
             false
         }
