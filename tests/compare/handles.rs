@@ -11,6 +11,7 @@ pub enum Handle {
     AddReadings,
     DesignLevel,
     Depth,
+    Plain,
     Worksheet,
     Plans,
     Width,

@@ -9,7 +9,7 @@
 
 typedef uint32_t call(const void *input, size_t count, void *place, size_t space);
 
-extern call trial_read, trial_write, trial_add, trial_level, trial_depth, trial_worksheet, trial_width, trial_bend, trial_make, trial_classes, trial_speed;
+extern call trial_read, trial_write, trial_add, trial_level, trial_depth, trial_plain, trial_worksheet, trial_width, trial_bend, trial_make, trial_classes, trial_speed;
 extern uint32_t trial_design(const uint8_t *sheet, size_t length, const uint32_t *table, size_t slots, int32_t *place, size_t space);
 
 /* A plan's part of the place: what the call returned, and the bytes that it is lent with bytes behind them. */
@@ -75,6 +75,7 @@ static const struct handle handles[] = {
     {trial_add, 4, 4},
     {trial_level, 4, 1},
     {trial_depth, 4, 4},
+    {trial_plain, 4, 4},
     {trial_worksheet, 4, 4},
     {plans, 1, 1},
     {trial_width, 4, 4},

@@ -41,6 +41,16 @@ pub extern "C" fn trial_depth(figures: &[u32], place: &mut [u32]) -> u32 {
     }
 }
 
+// The sailing depth and the cut of the plain engine, 0 where it has none; its refusal, 0 where it has a cut.
+#[no_mangle]
+pub extern "C" fn trial_plain(figures: &[u32], place: &mut [u32]) -> u32 {
+    let numbers = engine::plain_numbers(engine::plain_depth(stretch_of(figures)));
+    let sailing = (numbers[1] % 4294967296) as u32;
+    let cut = (numbers[2] % 4294967296) as u32;
+    places::store(&[sailing, cut], place, 0);
+    (numbers[0] % 256) as u32
+}
+
 fn column_figure(column: Column) -> u32 {
     match column {
         Column::A => 0,
