@@ -29,7 +29,7 @@ use Rattle.texts.specs.Typed.{Faultless, typedBytes}
 use Rattle.channel.specs.Input.{Input, inputOf, Came}
 use Rattle.channel.specs.Output.{Lines, standing, withLines, written}
 use Rattle.channel.specs.Route.{noSheets}
-use Rattle.channel.specs.Text.{sheetsOf, recordTable, recordCounts, routeAfter, shipsOfAll, howManyAnswered, sheetLineIn, agreedAfter, howManyAgreed, routeLineOf, linesOf, printed}
+use Rattle.channel.specs.Text.{sheetsOf, recordTable, recordCounts, routeAfter, shipsOfAll, howManyAnswered, howManyCame, sheetLineIn, agreedAfter, howManyAgreed, routeLineOf, linesOf, printed}
 use Rattle.channel.specs.Printing.{fileBlock, inputBlock, TextPrinted}
 use Rattle.channel.specs.Showing.{shownTexts, textsOf, shown, TextShown}
 use Rattle.channel.specs.Typing.{anyFault, bytesOfSheets, TypedOut}
@@ -101,6 +101,10 @@ module _ (level : LevelRead) where
     -- By both engines, on how many sheets they agree.
     pub agreed-counted : agreedAfter Both level 0 sheets ≡ min greatest (howManyAgreed level sheets)
     agreed-counted = the-route.agreed-counted level sheets 0 (omega arith) ∙ ap (min greatest) (zero-add (howManyAgreed level sheets))
+
+    -- They agree on every sheet that comes to its depth.
+    pub all-that-came-agreed : howManyAgreed level sheets ≡ howManyCame level sheets
+    all-that-came-agreed = the-route.all-agreed level sheets
 
 -- By both engines the line of a sheet is as ever, with the plain engine's three numbers before its newline;
 pub line-as-ever : (index : ℕ) (sheet : List ℕ) (level : LevelRead)

@@ -1,5 +1,6 @@
 -- The route after sheets: how many there are, how many have code 0, the smallest class of those, and on how many the engines agreed. By the list of sheets.
-use mathlib.Core.Path.{_≡_, refl, sym, ap, _∙_}
+use mathlib.Core.Path.{_≡_, refl, sym, ap, ap₂, _∙_}
+use mathlib.Core.Bool.{Bool, true, false}
 use mathlib.Core.List.{List, [], _∷_, flatten, foldl, foldl-append}
 use Prim.Native.Nat.{ℕ, _+_, _≤_, min}
 use native.Mathlib.Omega.{arith}
@@ -10,7 +11,8 @@ use Rattle.laws.proofs.Never.{never}
 use Rattle.class.specs.Classes.{withShip}
 use Rattle.gauge.specs.declared.LevelRead.{LevelRead}
 use Rattle.record.specs.Counting.{greatest}
-use Rattle.both.specs.Both.{bothOf}
+use Rattle.both.specs.Both.{cameTo, bothOf}
+use Rattle.both.proofs.Promises.{verdict-exactly}
 use Rattle.both.specs.declared.Verdict.{Verdict}
 use Rattle.both.specs.declared.Verdict.the-variants.{NotCome, Agreed, Differed}
 use Rattle.design.specs.Design.{designAt}
@@ -19,7 +21,7 @@ use Rattle.design.specs.declared.Answer.{Answer}
 use Rattle.design.specs.declared.Answer.the-variants.{Answered, Refused}
 use Rattle.design.proofs.Promises.{zero-when-answered}
 use Rattle.channel.specs.Route.{withSheet, shipsOf}
-use Rattle.channel.specs.Text.{routeAfter, shipsOfAll, howManyAnswered, withVerdict, agreedAfter, oneIfAgreed, howManyAgreed}
+use Rattle.channel.specs.Text.{routeAfter, shipsOfAll, howManyAnswered, howManyCame, withVerdict, agreedAfter, oneIfAgreed, howManyAgreed}
 use Rattle.channel.specs.declared.engines.Form.the-variants.{Both}
 use Rattle.channel.specs.declared.route.Route.{Route}
 
@@ -41,6 +43,10 @@ one-agreed : (agreed : ℕ) (verdict : Verdict) → agreed ≤ greatest → with
 one-agreed agreed Agreed h = refl
 one-agreed agreed NotCome h = omega arith
 one-agreed agreed Differed h = omega arith
+
+one-came : (came : Bool) → oneIfAgreed (if came then Agreed else NotCome) ≡ (if came then 1 else 0)
+one-came true = refl
+one-came false = refl
 
 module _ (level : LevelRead) where
   pub sheets-counted : (sheets : List (List ℕ)) (route : Route) → route .sheets ≤ greatest → routeAfter level route sheets .sheets ≡ min greatest (route .sheets + length sheets)
@@ -64,6 +70,11 @@ module _ (level : LevelRead) where
   agreed-counted (sheet ∷ sheets) agreed h =
       let verdict = bothOf sheet level .verdict in
       agreed-counted sheets (withVerdict agreed verdict) (omega (arith, one-agreed agreed verdict h)) ∙ omega (arith, one-agreed agreed verdict h)
+
+  pub all-agreed : (sheets : List (List ℕ)) → howManyAgreed level sheets ≡ howManyCame level sheets
+  unfolding howManyAgreed howManyCame
+  all-agreed [] = refl
+  all-agreed (sheet ∷ sheets) = ap₂ _+_ (ap oneIfAgreed (verdict-exactly sheet level) ∙ one-came (cameTo (designAt sheet level))) (all-agreed sheets)
 
   pub smallest-class : (sheets : List (List ℕ)) (route : Route) → routeAfter level route sheets .class ≡ foldl withShip (route .class) (shipsOfAll level sheets)
   unfolding routeAfter flatten

@@ -15,7 +15,7 @@ use Rattle.design.specs.Design.{designAt}
 use Rattle.design.specs.Numbers.{codeOf, numbersOf}
 use Rattle.design.specs.declared.Answer.{Answer}
 use Rattle.lines.specs.Lines.{levelsLine, sheetLine, bothLine, routeLine, bothRouteLine}
-use Rattle.both.specs.Both.{bothOf}
+use Rattle.both.specs.Both.{cameTo, bothOf}
 use Rattle.both.specs.declared.Verdict.{Verdict}
 use Rattle.both.specs.declared.Verdict.the-variants.{NotCome, Agreed, Differed}
 use Rattle.channel.specs.Route.{noSheets, withSheet, shipsOf}
@@ -59,6 +59,11 @@ module _ (level : LevelRead) where
   unfoldable pub howManyAnswered : List (List ℕ) → ℕ
   howManyAnswered [] = 0
   howManyAnswered (sheet ∷ sheets) = (if codeOf (designAt sheet level) =ᵇ 0 then 1 else 0) + howManyAnswered sheets
+
+  -- how many came to their depth
+  unfoldable pub howManyCame : List (List ℕ) → ℕ
+  howManyCame [] = 0
+  howManyCame (sheet ∷ sheets) = (if cameTo (designAt sheet level) then 1 else 0) + howManyCame sheets
 
 -- the line of a sheet: its index and its numbers, and by both engines the plain engine's behind them
 abbrev pub sheetLineIn : Form → ℕ → List ℕ → LevelRead → List ℕ
