@@ -1,16 +1,20 @@
-//! The printing program's text, byte for byte: the definition's figures as they stand in it, then many sheets over many
-//! level records beside the second program.
+//! The printing program's text, byte for byte, in both its forms: the definition's figures as they stand in it, then many
+//! sheets over many level records beside the second program.
 
 use crate::parts::in_parts;
-use crate::program::{forget, printed};
+use crate::program::{forget, printed, set_levels, written};
 use crate::report::{hex, Report};
 use crate::second::print;
 use crate::second::random::{self, Random};
 use crate::second::sheet::{self, BYTES, FIELDS};
 use std::process::exit;
+use std::sync::atomic::{AtomicU64, Ordering};
 
 const RECORDS: u64 = 64;
 const SHEETS: usize = 16_000;
+
+/// Sheets of a record in the second form, whose plain engine is slow.
+const SHEETS_OF_BOTH: usize = 1_000;
 
 /// The sheet of a line, counted from 0; the first line is the record's.
 fn sheet_of(input: &[u8], line: usize) -> String {
@@ -48,6 +52,45 @@ fn both(name: &str, levels: Option<&[u8]>, input: &[u8]) -> u64 {
         stop_at_difference(name, input, &proved, second.as_bytes());
     }
     forget(name);
+    input.chunks(BYTES).count() as u64
+}
+
+/// The codes that the second form must show, those of the depth and behind it among them.
+const CODES: [usize; 14] = [0, 1, 2, 3, 5, 6, 7, 8, 13, 14, 15, 16, 17, 18];
+
+/// How often each code was seen in the second form, over all records.
+struct Seen([AtomicU64; 32]);
+
+impl Seen {
+    fn new() -> Seen {
+        Seen(std::array::from_fn(|_| AtomicU64::new(0)))
+    }
+
+    fn add(&self, text: &[u8]) {
+        for line in lines_of(text) {
+            self.0[line[CODE] as usize].fetch_add(1, Ordering::Relaxed);
+        }
+    }
+
+    fn saw_all(&self) {
+        let counts = CODES.map(|code| (code, self.0[code].load(Ordering::Relaxed)));
+        println!("printing: (code, sheets) in the second form: {counts:?}");
+        assert!(counts.iter().all(|&(_, sheets)| sheets > 10));
+    }
+}
+
+/// One run in the second form; the second program's engines must agree too, so that nothing is said.
+fn both_engines(name: &str, levels: Option<&[u8]>, input: &[u8], seen: &Seen) -> u64 {
+    set_levels(name, levels);
+    let (proved, said) = written(name, "both", input);
+    let (second, differ) = print::both(levels, input);
+    if proved != second.as_bytes() {
+        stop_at_difference(name, input, &proved, second.as_bytes());
+    }
+    let said = String::from_utf8_lossy(&said);
+    assert_eq!((&*said, &*differ), ("", ""), "{name}: what is said");
+    forget(name);
+    seen.add(&proved);
     input.chunks(BYTES).count() as u64
 }
 
@@ -107,13 +150,13 @@ pub fn damaged_whole(rng: &mut Random) -> Vec<u8> {
 }
 
 /// Sheets, one in eight damaged. Each fourth stream is out of step from some sheet on; the end is of any length.
-fn stream(record: u64, rng: &mut Random) -> Vec<u8> {
+fn stream(record: u64, sheets: usize, rng: &mut Random) -> Vec<u8> {
     let shift_at = match record % 4 {
-        0 => rng.below(SHEETS),
-        _ => SHEETS,
+        0 => rng.below(sheets),
+        _ => sheets,
     };
     let mut bytes = Vec::new();
-    for number in 0..SHEETS {
+    for number in 0..sheets {
         bytes.extend(match rng.below(8) {
             0 => damaged_whole(rng),
             _ => valid(rng),
@@ -129,8 +172,19 @@ fn stream(record: u64, rng: &mut Random) -> Vec<u8> {
 fn record(number: u64) -> u64 {
     let mut rng = Random::new(700 + number);
     let levels = levels_of(number, &mut rng);
-    let input = stream(number, &mut rng);
+    let input = stream(number, SHEETS, &mut rng);
     both(&format!("record-{number}"), levels.as_deref(), &input)
+}
+
+/// Other sheets over such a record in the second form, and inputs of no sheet, of a part of one and of a little more.
+fn record_of_both(number: u64, seen: &Seen) -> u64 {
+    let mut rng = Random::new(900 + number);
+    let levels = levels_of(number, &mut rng);
+    let input = stream(number, SHEETS_OF_BOTH, &mut rng);
+    let lengths = [0, 1, BYTES - 1, BYTES, BYTES + 1, input.len()];
+    let name = format!("both-{number}");
+    let one = |&length: &usize| both_engines(&name, levels.as_deref(), &input[..length], seen);
+    lengths.iter().map(one).sum()
 }
 
 /// Files that end at and beside the ends of the blocks in which a program may read and write.
@@ -251,6 +305,47 @@ fn figures(report: &mut Report) {
     }
 }
 
+/// Fields changed in S, and what the line of the second form then has: the code, and the plain engine's three numbers.
+const FIGURES_OF_BOTH: &[(&[(usize, i64)], [i64; 4])] = &[
+    (&[], [0, 0, 1_170, 1_170]),
+    (&[(9, 100)], [0, 0, 1_170, 1_245]),
+    (&[(8, 31), (6, 578)], [0, 0, 1_156, 1_156]),
+    (&[(5, 12), (6, 600)], [13, 13, 0, 0]),
+    (&[(9, 900)], [14, 14, 0, 0]),
+    (&[(2, 2_500), (8, 300)], [15, 15, 0, 0]),
+    (&[(29, 13)], [16, 0, 1_170, 1_170]),
+    (&[(4, 1_200), (6, 100), (29, 4)], [17, 0, 1_180, 1_180]),
+    (&[(3, 6_000), (4, 4_000)], [18, 0, 0, 0]),
+    (&[(25, 30), (26, 999)], [7, 0, 0, 0]),
+];
+
+/// The second form: S as printed, and the case of each line; all but the last two come to a depth.
+fn figures_of_both(report: &mut Report) {
+    let said_of = |input: &[u8]| {
+        let (text, said) = written("figures", "both", input);
+        assert!(said.is_empty(), "the engines agree");
+        text
+    };
+    let text = said_of(&s_with(&[]));
+    let wanted = "L 0 0 0\n1 0 0 0 1 1170 1170 1170 14400 0 2 0 0 1 0 1170 1170\nR 1 1 0 1\n";
+    report.case(&*String::from_utf8_lossy(&text), wanted, || {
+        "S in the second form".to_string()
+    });
+    let changed = FIGURES_OF_BOTH.iter();
+    let input: Vec<u8> = changed.flat_map(|(changes, _)| s_with(changes)).collect();
+    let text = said_of(&input);
+    report.case(text.ends_with(b"\nR 10 3 0 8\n"), true, || {
+        "the route in the second form".to_string()
+    });
+    for (line, (changes, wanted)) in lines_of(&text).iter().zip(FIGURES_OF_BOTH) {
+        let plain = &line[line.len() - 3..];
+        let got = [line[CODE], plain[0], plain[1], plain[2]];
+        report.case(got, *wanted, || {
+            format!("S with (field, figure) {changes:?}, in the second form")
+        });
+    }
+}
+
 /// "262 readings of 0 and 26,018 of 60: level 60. 263 and 26,017: level 0."
 fn levels(report: &mut Report) {
     let off_record = s_with(&[(27, 0), (28, 0)]);
@@ -265,12 +360,19 @@ fn levels(report: &mut Report) {
 }
 
 pub fn printing() {
-    let mut checked = Report::new("figures printed", FIGURES.len() as u64 + 4);
+    let cases = FIGURES.len() + FIGURES_OF_BOTH.len();
+    let mut checked = Report::new("figures printed", cases as u64 + 6);
     figures(&mut checked);
+    figures_of_both(&mut checked);
     levels(&mut checked);
     checked.end();
     let mut report = Report::new("printing", 1_000_000);
     report.add(block_ends(&mut Random::new(7)));
     report.add(in_parts("printing", RECORDS, record));
     report.end();
+    let (mut of_both, seen) = (Report::new("printing, second form", 64_000), Seen::new());
+    let part = |number| record_of_both(number, &seen);
+    of_both.add(in_parts("printing, second form", RECORDS, part));
+    seen.saw_all();
+    of_both.end();
 }
