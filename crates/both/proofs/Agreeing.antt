@@ -19,8 +19,8 @@ use Rattle.depth.specs.declared.DepthFigures.{DepthFigures}
 use Rattle.depth.specs.declared.Depth.the-variants.{Cut}
 use Rattle.engine.specs.Plain.{plainDepth}
 use Rattle.engine.specs.Meaning.{AsRead}
-use Rattle.engine.specs.Beside.{uncounted, plainNumbers}
-use Rattle.engine.proofs.Promises.{engines-agree, read-straight}
+use Rattle.engine.specs.Numbers.{plainNumbers}
+use Rattle.engine.proofs.Promises.{read-straight}
 use Rattle.speed.specs.declared.SpeedFault.{SpeedFault}
 use Rattle.design.specs.Design.{designAt}
 use Rattle.design.specs.declared.Figures.{Figures}
@@ -29,7 +29,8 @@ use Rattle.design.specs.declared.Answer.{Answer}
 use Rattle.design.specs.declared.Answer.the-variants.{Answered, Refused}
 use Rattle.both.specs.declared.Both.{Both}
 use Rattle.both.specs.declared.Verdict.the-variants.{NotCome, Agreed, Differed}
-use Rattle.both.specs.Both.{cameTo, sameNumbers, verdictOf, notCome, ofStretch, byReading, byLevel, bothOf, DesignedAt, stretchIn}
+use Rattle.both.specs.Both.{cameTo, uncounted, sameNumbers, verdictOf, notCome, ofStretch, byReading, byLevel, bothOf, DesignedAt, stretchIn}
+use Rattle.both.proofs.Engines.{engines-agree}
 use Rattle.both.proofs.Steps.{refused-before, came-there}
 use Rattle.both.proofs.Standing.{Stands, stands, reached}
 

@@ -1,4 +1,5 @@
 mod Steps
+mod Engines
 mod Standing
 mod Agreeing
 mod Codes

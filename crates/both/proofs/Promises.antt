@@ -1,4 +1,4 @@
--- What the two engines beside each other promise (section 16).
+-- What the two engines beside each other promise (section 16.2).
 use mathlib.Core.Path.{_≡_, ap}
 use mathlib.Core.Bool.{true, false}
 use mathlib.Core.List.{List, [], _∷_}
@@ -9,9 +9,13 @@ use Rattle.laws.specs.Extremes.{Least}
 use Rattle.laws.proofs.Unique.{one-answer}
 use Rattle.gauge.specs.declared.LevelRead.{LevelRead}
 use Rattle.depth.specs.Depth.{sailing, ownColumn, Meets, depthFaultNumber}
+use Rattle.depth.specs.Worksheet.{workDepth}
+use Rattle.depth.specs.declared.Stretch.{Stretch}
+use Rattle.depth.specs.declared.Depth.{Depth}
 use Rattle.depth.specs.declared.DepthFault.{DepthFault}
 use Rattle.engine.specs.Plain.{plainDepth}
-use Rattle.engine.specs.Beside.{plainNumbers}
+use Rattle.engine.specs.Numbers.{plainNumbers}
+use Rattle.engine.specs.declared.PlainDepth.{PlainDepth}
 use Rattle.speed.specs.declared.SpeedFault.{SpeedFault}
 use Rattle.design.specs.Design.{designAt}
 use Rattle.design.specs.Numbers.{codeOf}
@@ -21,9 +25,14 @@ use Rattle.design.specs.declared.Answer.{Answer}
 use Rattle.design.specs.declared.Answer.the-variants.{Answered, Refused}
 use Rattle.both.specs.declared.Both.{Both}
 use Rattle.both.specs.declared.Verdict.the-variants.{NotCome, Agreed, Differed}
-use Rattle.both.specs.Both.{cameTo, bothOf, DepthReached, DesignedAt, stretchIn}
+use Rattle.both.specs.Both.{cameTo, uncounted, bothOf, DepthReached, DesignedAt, stretchIn}
+use Rattle.both.proofs.Engines as engines
 use Rattle.both.proofs.Agreeing as agreeing
 use Rattle.both.proofs.Codes.{came-exactly}
+
+-- The two engines: whatever `work_depth` of `depth` and `plain_depth` of `engine` answer for one stretch has the same cut, sailing depth and refusal.
+pub engines-agree : (q : Stretch) (worked : Depth) (plain : PlainDepth) → worked ≡ workDepth q → plain ≡ plainDepth q → uncounted worked ≡ plain
+engines-agree = engines.engines-agree
 
 -- A sheet came to its depth exactly when its code is 0 or 13 to 17.
 pub depth-reached-exactly : (a : Answer) → (cameTo a ≡ true) ↔ DepthReached (codeOf a)

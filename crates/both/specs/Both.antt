@@ -1,4 +1,4 @@
--- The two engines beside each other on one sheet (section 16).
+-- The two engines beside each other on one sheet (section 16.2).
 use Prim.Native.Nat.{ℕ, _≤_}
 use mathlib.Core.Path.{_≡_}
 use mathlib.Core.Logic.{_⊎_}
@@ -15,8 +15,12 @@ use Rattle.gauge.specs.declared.LevelRead.{LevelRead}
 use Rattle.gauge.specs.declared.LevelRead.the-variants.{Found, NoLevel as NotFound}
 use Rattle.depth.specs.Worksheet.{workDepth}
 use Rattle.depth.specs.declared.Stretch.{Stretch}
+use Rattle.depth.specs.declared.Depth.{Depth}
+use Rattle.depth.specs.declared.Depth.the-variants.{Cut, NoCut}
 use Rattle.engine.specs.Plain.{plainDepth}
-use Rattle.engine.specs.Beside.{uncounted, plainNumbers}
+use Rattle.engine.specs.Numbers.{plainNumbers}
+use Rattle.engine.specs.declared.PlainDepth.{PlainDepth}
+use Rattle.engine.specs.declared.PlainDepth.the-variants.{Met, Unmet}
 use Rattle.design.specs.Design.{levelFor, designAt}
 use Rattle.design.specs.Answers.{stretchOf}
 use Rattle.design.specs.declared.Reason.{Reason}
@@ -39,6 +43,11 @@ reasonCame (NoSpeed fault) = true
 abbrev pub cameTo : Answer → Bool
 cameTo (Answered f) = true
 cameTo (Refused reason) = reasonCame reason
+
+-- the worksheet's depth, without how many columns it tried
+abbrev pub uncounted : Depth → PlainDepth
+uncounted (Cut f) = Met (record { cut = f .cut; sailing = f .sailing })
+uncounted (NoCut fault) = Unmet fault
 
 -- two depths have the same refusal, sailing depth and cut
 unfoldable pub sameNumbers : List ℕ → List ℕ → Bool

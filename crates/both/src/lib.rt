@@ -1,9 +1,12 @@
 // The two engines beside each other: the answer of a sheet, and what the plain engine has for its depth (definition, section 16).
 ghost use mathlib.Core.Path.{_≡_};
-ghost use Rattle.both.specs.Both.{reasonCame, cameTo, sameNumbers, verdictOf, notCome, ofStretch, byLevel, byReading, bothOf};
+ghost use Rattle.both.specs.Both.{reasonCame, cameTo, uncounted, sameNumbers, verdictOf, notCome, ofStretch, byLevel, byReading, bothOf};
+use depth::Depth;
 use design::Answer;
 use design::Reason;
 use engine::PLAIN_COUNT;
+use engine::PlainDepth;
+use engine::PlainFigures;
 use gauge::LevelRead;
 use sheet::Sheet;
 use sheet::SheetRead;
@@ -78,11 +81,25 @@ fn not_come(answer: Answer) -> Both
     }
 }
 
+// The worksheet's depth, without its count of columns.
+fn uncounted_of(depth: Depth) -> PlainDepth
+    ensures { λ r. ⌜ r ≡ uncounted depth ⌝ }
+{
+    match depth {
+        Depth::Cut(figures) => {
+            let cut = figures.cut;
+            let sailing = figures.sailing;
+            PlainDepth::Met(PlainFigures { cut, sailing })
+        }
+        Depth::NoCut(fault) => PlainDepth::Unmet(fault),
+    }
+}
+
 // The two engines on the stretch of a sheet.
 fn of_stretch(answer: Answer, stretch: depth::Stretch) -> Both
     ensures { λ r. ⌜ r ≡ ofStretch answer stretch ⌝ }
 {
-    let worked = engine::plain_numbers(engine::uncounted_of(depth::work_depth(stretch)));
+    let worked = engine::plain_numbers(uncounted_of(depth::work_depth(stretch)));
     let plain = engine::plain_numbers(engine::plain_depth(stretch));
     let verdict = verdict_of(worked, plain);
     Both {

@@ -4,5 +4,5 @@ mod Tests
 mod Serving
 mod Rulings
 mod Straight
-mod Agreement
+mod OneReading
 pub mod Promises

@@ -1,17 +1,15 @@
--- What the plain engine promises (section 16): it is the definition, read straight, and the worksheet gives the same.
-use mathlib.Core.Path.{_≡_, ap, sym, _∙_}
+-- What the plain engine promises (section 16.1): it is the definition, read straight.
+use mathlib.Core.Path.{_≡_}
 use mathlib.Core.List.{List}
 use Prim.Native.Nat.{ℕ}
 use Rattle.laws.proofs.Unique.{one-answer}
 use Rattle.depth.specs.declared.Stretch.{Stretch}
-use Rattle.depth.specs.declared.Depth.{Depth}
-use Rattle.depth.specs.Worksheet.{workDepth}
 use Rattle.engine.specs.declared.PlainDepth.{PlainDepth}
 use Rattle.engine.specs.Plain.{plainDepth}
 use Rattle.engine.specs.Meaning.{AsRead}
-use Rattle.engine.specs.Beside.{uncounted, plainNumbers}
+use Rattle.engine.specs.Numbers.{plainNumbers}
 use Rattle.engine.proofs.Straight as straight
-use Rattle.engine.proofs.Agreement as agreement
+use Rattle.engine.proofs.OneReading.{one-reading}
 
 -- Its cut is the least that meets the definition, and the s of that cut's column is its sailing depth; where it has none, no cut meets the definition, and its
 -- refusal is that of the first column that cannot be used.
@@ -20,18 +18,11 @@ read-straight = straight.read-straight
 
 -- Nothing else is the definition, read straight.
 pub no-other-read : (q : Stretch) (r : PlainDepth) → AsRead q r → r ≡ plainDepth q
-no-other-read = agreement.no-other-read
-
--- The two engines: whatever `work_depth` and `plain_depth` answer for one stretch has the same cut, sailing depth and refusal.
-pub engines-agree : (q : Stretch) (worked : Depth) (plain : PlainDepth) → worked ≡ workDepth q → plain ≡ plainDepth q → uncounted worked ≡ plain
-engines-agree q worked plain w p = ap uncounted w ∙ agreement.engines-agree q ∙ sym p
+no-other-read q r a = one-reading q r (plainDepth q) a (straight.read-straight q)
 
 -- Each call has one result.
 pub one-plain-depth : (q : Stretch) (r s : PlainDepth) → r ≡ plainDepth q → s ≡ plainDepth q → r ≡ s
 one-plain-depth q = one-answer
-
-pub one-uncounted : (depth : Depth) (r s : PlainDepth) → r ≡ uncounted depth → s ≡ uncounted depth → r ≡ s
-one-uncounted depth = one-answer
 
 pub plain-numbers-unique : (depth : PlainDepth) (r s : List ℕ) → r ≡ plainNumbers depth → s ≡ plainNumbers depth → r ≡ s
 plain-numbers-unique depth = one-answer

@@ -1,4 +1,4 @@
--- The plain engine: definition, sections 4.6 and 4.7, read straight; and the worksheet beside it, section 16.
+-- The plain engine: definition, section 16.1, which is sections 4.6 and 4.7 read straight.
 pub mod Plain
 pub mod Meaning
-pub mod Beside
+pub mod Numbers

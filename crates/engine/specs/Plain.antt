@@ -20,11 +20,12 @@ use Rattle.engine.specs.declared.PlainFigures.{PlainFigures}
 use Rattle.engine.specs.declared.PlainDepth.{PlainDepth}
 use Rattle.engine.specs.declared.PlainDepth.the-variants.{Met, Unmet}
 
--- the first of so many depths from d on that passes a test
+-- what was found: one more than a depth, or 0 for none
 abbrev pub found : ℕ → Search
 found zero = Nowhere
 found (suc d) = At d
 
+-- the first of so many depths from d on that passes a test
 unfoldable pub firstDepth : (ℕ → Bool) → ℕ → ℕ → Search
 firstDepth passes d many = found (firstFrom passes d many)
 

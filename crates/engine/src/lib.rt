@@ -1,16 +1,15 @@
 // The plain engine: the definition of the depth read straight (definition, sections 4.2 to 4.7). It tries each cut from 1 to 3,000 and takes the first that
 // meets the definition; where none does, it asks the columns why.
 ghost use mathlib.Core.Path.{_≡_};
+ghost use mathlib.Core.Bool.{true};
 ghost use Prim.Native.Nat.{_^_, _<_};
 ghost use Rattle.datum.specs.Datum.{dug};
 ghost use Rattle.depth.specs.Depth.{columnOf, z3, sailing, z4};
-ghost use mathlib.Core.Bool.{true};
 ghost use Rattle.engine.specs.declared.Search.the-variants.{At};
 ghost use Rattle.engine.specs.Plain.{deep, serves, meets, firstCut, firstFigure, byFigure, rulingOf, reasonOf, figuresAt, plainDepth};
-ghost use Rattle.engine.specs.Beside.{uncounted, plainNumbers};
+ghost use Rattle.engine.specs.Numbers.{plainNumbers};
 use datum::BelowLevel;
 use depth::Column;
-use depth::Depth;
 use depth::DepthFault;
 use depth::Stretch;
 
@@ -51,11 +50,11 @@ const MOST_SILT: u64 = 120;
 fn dug_of(natural: BelowLevel, d: u64) -> u64
     ensures { λ r. ⌜ r ≡ dug (natural .0) d ⌝ }
 {
-    let bed = natural.0 as u64;
-    if d < bed {
+    let n = natural.0 as u64;
+    if d < n {
         return 0;
     }
-    d - bed
+    d - n
 }
 
 // The column of a cut d: A when 10h ≤ 5d, B when 10h ≤ 8d, else C.
@@ -238,20 +237,6 @@ pub fn plain_depth(stretch: Stretch) -> PlainDepth
     match found {
         Search::At(d) => PlainDepth::Met(figures_at(stretch, d)),
         Search::Nowhere => PlainDepth::Unmet(reason_of(stretch)),
-    }
-}
-
-// A depth of the worksheet, without its count of columns.
-pub fn uncounted_of(depth: Depth) -> PlainDepth
-    ensures { λ r. ⌜ r ≡ uncounted depth ⌝ }
-{
-    match depth {
-        Depth::Cut(figures) => {
-            let cut = figures.cut;
-            let sailing = figures.sailing;
-            PlainDepth::Met(PlainFigures { cut, sailing })
-        }
-        Depth::NoCut(fault) => PlainDepth::Unmet(fault),
     }
 }
 

@@ -12,7 +12,7 @@ use mir.Val.{SFits}
 use Rattle.laws.specs.Choice.{_≤ᵇ_}
 use Rattle.laws.proofs.Unique.{one-answer}
 use Rattle.laws.specs.Each.{Each}
-use Rattle.engine.specs.Beside.{plainCount}
+use Rattle.engine.specs.Numbers.{plainCount}
 use Rattle.lines.specs.Decimals.{digits, valueOf, Decimal, minus, countText, numberText}
 use Rattle.sheet.specs.CaseS.{sheetS}
 use Rattle.sheet.specs.Packing.{Bytes}

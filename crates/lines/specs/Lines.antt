@@ -5,7 +5,7 @@ use mathlib.Core.List.{List, [], _∷_, _++_, map}
 use lib.IntN.{ℤ}
 use lib.ListN.{length, take, drop}
 use Rattle.laws.specs.Choice.{if_then_else_, _≤ᵇ_}
-use Rattle.engine.specs.Beside.{plainCount}
+use Rattle.engine.specs.Numbers.{plainCount}
 use Rattle.design.specs.Numbers.{numberCount}
 use Rattle.lines.specs.Decimals.{countText, numberText}
 

@@ -9,7 +9,7 @@ use lib.ListN.{length, length-append, length-map}
 use mir.Syntax.{w32}
 use mir.Val.{SFits}
 use Rattle.laws.specs.Each.{Each}
-use Rattle.engine.specs.Beside.{plainCount}
+use Rattle.engine.specs.Numbers.{plainCount}
 use Rattle.lines.specs.Decimals.{countText, numberText}
 use Rattle.design.specs.Numbers.{numberCount}
 use Rattle.lines.specs.Lines.{spaced, levelsLine, sheetLine, bothLine, routeLine, bothRouteLine, lineBytes}

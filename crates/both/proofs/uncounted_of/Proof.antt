@@ -1,7 +1,7 @@
--- `engine::uncounted_of` meets its contract: an arm for each way.
+-- `both::uncounted_of` meets its contract: an arm for each way.
 use borrow.Author.Needs.{needs}
-use Rattle.engine.proofs.uncounted_of.Statement.{statement}
-use Rattle.engine.proofs.uncounted_of.Tie as tie
+use Rattle.both.proofs.uncounted_of.Statement.{statement}
+use Rattle.both.proofs.uncounted_of.Tie as tie
 
 returns : tie.Need-returns
 returns c = rw (c .before .before .before .depth .given .1)
