@@ -8,14 +8,14 @@ use Rattle.design.specs.Design.{designAt}
 use Rattle.design.specs.Numbers.{numbersOf}
 use Rattle.both.specs.declared.Both.{Both as TwoEngines}
 use Rattle.both.proofs.Promises.{same-answer}
-use Rattle.lines.specs.Lines.{lineBytes, placeAfter, bufferAfter}
+use Rattle.lines.specs.Lines.{lineBytes, lineIn, placeAfter, bufferAfter}
+use Rattle.lines.specs.declared.Form.{Form}
+use Rattle.lines.specs.declared.Form.the-variants.{Alone, Both}
 use Rattle.channel.specs.Input.{SoFar}
 use Rattle.channel.specs.Output.{placeFor, withLine, withLines}
 use Rattle.channel.specs.Route.{noSheets, withSheet}
 use Rattle.channel.specs.Text.{sheetLineIn, verdictIn, withVerdict, routeAfter, sheetLines, agreedAfter}
-use Rattle.channel.specs.Printing.{inputBlock, workedIn, lineIn, Progress, atFirst, sheetsPrinted, InputPrinted}
-use Rattle.channel.specs.declared.engines.Form.{Form}
-use Rattle.channel.specs.declared.engines.Form.the-variants.{Alone, Both}
+use Rattle.channel.specs.Printing.{inputBlock, workedIn, Progress, atFirst, sheetsPrinted, InputPrinted}
 use Rattle.channel.specs.declared.route.Route.{Route}
 use Rattle.channel.proofs.Lines.{lines-in-two}
 use Rattle.channel.proofs.Taking.{Putting, begun}

@@ -16,6 +16,8 @@ use Rattle.gauge.specs.declared.LevelRead.{LevelRead}
 use Rattle.record.specs.Counting.{greatest}
 use Rattle.lines.specs.Decimals.{countText}
 use Rattle.lines.specs.Lines.{lineBytes, newline, spaced}
+use Rattle.lines.specs.declared.Form.{Form}
+use Rattle.lines.specs.declared.Form.the-variants.{Alone, Both}
 use Rattle.lines.proofs.Promises.{both-line-longer, both-route-line-longer}
 use Rattle.design.specs.Design.{designAt}
 use Rattle.design.specs.Numbers.{codeOf, numbersOf}
@@ -36,8 +38,6 @@ use Rattle.channel.specs.Typing.{anyFault, bytesOfSheets, TypedOut}
 use Rattle.channel.specs.Worksheets.{itemsOf, worksheetLines, worksheetsText, Accepted, OverRecord}
 use Rattle.channel.specs.Starred.{textOfS}
 use Rattle.channel.specs.declared.Text.the-variants.{Whole}
-use Rattle.channel.specs.declared.engines.Form.{Form}
-use Rattle.channel.specs.declared.engines.Form.the-variants.{Alone, Both}
 use Rattle.channel.specs.declared.route.Route.{Route}
 use Rattle.channel.specs.declared.worksheets.Source.{Source}
 use Rattle.channel.specs.declared.worksheets.Source.the-variants.{Typed}

@@ -20,9 +20,9 @@ use Rattle.design.specs.Numbers.{codeOf}
 use Rattle.design.specs.declared.Answer.{Answer}
 use Rattle.design.specs.declared.Answer.the-variants.{Answered, Refused}
 use Rattle.design.proofs.Promises.{zero-when-answered}
+use Rattle.lines.specs.declared.Form.the-variants.{Both}
 use Rattle.channel.specs.Route.{withSheet, shipsOf}
 use Rattle.channel.specs.Text.{routeAfter, shipsOfAll, howManyAnswered, howManyCame, withVerdict, agreedAfter, oneIfAgreed, howManyAgreed}
-use Rattle.channel.specs.declared.engines.Form.the-variants.{Both}
 use Rattle.channel.specs.declared.route.Route.{Route}
 
 -- one sheet

@@ -23,11 +23,11 @@ use Rattle.design.specs.declared.Answer.the-variants.{Answered, Refused}
 use Rattle.design.proofs.Promises.{table-gives-level}
 use Rattle.lines.specs.Lines.{routeLine, sheetLine}
 use Rattle.lines.specs.Starred.{numbersOfS, lineOfS}
+use Rattle.lines.specs.declared.Form.the-variants.{Alone}
 use Rattle.lines.proofs.Promises.{starred-levels, starred-numbers, starred-sheet, starred-route}
 use Rattle.channel.specs.Route.{noSheets, withSheet}
 use Rattle.channel.specs.Text.{sheetsOf, recordCounts, recordTable, recordLevel, routeAfter, sheetLines, agreedAfter, levelsLineOf, routeLineOf, printed}
 use Rattle.channel.specs.Starred.{textOfS}
-use Rattle.channel.specs.declared.engines.Form.the-variants.{Alone}
 use Rattle.channel.specs.declared.route.Route.{Route}
 use Rattle.channel.proofs.Cuts.{next-sheet, no-sheet}
 

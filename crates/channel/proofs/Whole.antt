@@ -9,6 +9,7 @@ use Rattle.gauge.specs.Designing.{designLevel}
 use Rattle.gauge.specs.declared.LevelRead.{LevelRead}
 use Rattle.record.specs.declared.Counts.{Counts}
 use Rattle.lines.specs.Lines.{lineBytes, placeAfter, bufferAfter}
+use Rattle.lines.specs.declared.Form.{Form}
 use Rattle.channel.specs.Input.{ToItsEnd}
 use Rattle.channel.specs.Output.{Lines, standing, withLine, withLines, written}
 use Rattle.channel.specs.Route.{noSheets}
@@ -16,7 +17,6 @@ use Rattle.channel.specs.Text.{sheetsOf, recordLevel, recordCounts, rout
 use Rattle.channel.specs.Printing.{fileBlock, inputBlock, FileAdded, Progress, progress, atFirst, sheetsPrinted, InputPrinted, RoutePrinted, sheetsAndRoute, LinesPrinted, TextOf, TextPrinted}
 use Rattle.channel.specs.declared.Text.{Text}
 use Rattle.channel.specs.declared.Text.the-variants.{Whole, Cut}
-use Rattle.channel.specs.declared.engines.Form.{Form}
 use Rattle.channel.specs.declared.sheets.State.{State}
 use Rattle.channel.proofs.Blocks.{brought}
 use Rattle.channel.proofs.Lines.{place-kept, line-put, all-lines, lines-in-two}

@@ -14,13 +14,13 @@ use Rattle.record.specs.declared.Counts.{Counts}
 use Rattle.design.specs.Design.{designAt}
 use Rattle.design.specs.Numbers.{codeOf, numbersOf}
 use Rattle.design.specs.declared.Answer.{Answer}
-use Rattle.lines.specs.Lines.{levelsLine, sheetLine, bothLine, routeLine, bothRouteLine}
+use Rattle.lines.specs.Lines.{levelsLine, sheetLine, bothLine, routeLineIn}
+use Rattle.lines.specs.declared.Form.{Form}
+use Rattle.lines.specs.declared.Form.the-variants.{Alone, Both}
 use Rattle.both.specs.Both.{cameTo, bothOf}
 use Rattle.both.specs.declared.Verdict.{Verdict}
 use Rattle.both.specs.declared.Verdict.the-variants.{NotCome, Agreed, Differed}
 use Rattle.channel.specs.Route.{noSheets, withSheet, shipsOf}
-use Rattle.channel.specs.declared.engines.Form.{Form}
-use Rattle.channel.specs.declared.engines.Form.the-variants.{Alone, Both}
 use Rattle.channel.specs.declared.route.Route.{Route}
 
 -- the first n sheets of the input, 28 bytes each
@@ -109,8 +109,7 @@ abbrev pub levelsLineOf : Counts → List ℕ
 levelsLineOf counts = levelsLine (counts .added) (counts .missing) (counts .refused)
 
 abbrev pub routeLineOf : Form → Route → ℕ → List ℕ
-routeLineOf Alone route agreed = routeLine (route .sheets) (route .answered) (route .class)
-routeLineOf Both route agreed = bothRouteLine (route .sheets) (route .answered) (route .class) agreed
+routeLineOf form route agreed = routeLineIn form (route .sheets) (route .answered) (route .class) agreed
 
 -- the lines, and the text
 abbrev pub linesOf : Form → List ℕ → List ℕ → List (List ℕ)

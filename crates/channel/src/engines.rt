@@ -1,21 +1,14 @@
-// The two forms of the printed text: what is worked of a sheet in each, its line, and the route's line.
+// The two engines: what is worked of a sheet in each form, and what becomes of the verdict.
 ghost use mathlib.Core.Path.{_≡_};
-ghost use Rattle.lines.specs.Lines.{placeAfter, bufferAfter};
-ghost use Rattle.channel.specs.Text.{withVerdict, routeLineOf};
-ghost use Rattle.channel.specs.Printing.{workedIn, lineIn};
-ghost use Rattle.channel.specs.declared.engines.Form.the-variants.{Alone};
+ghost use Rattle.lines.specs.declared.Form.the-variants.{Alone};
+ghost use Rattle.channel.specs.Text.{withVerdict};
+ghost use Rattle.channel.specs.Printing.{workedIn};
 use crate::output;
-use crate::route::Route;
 use both::Both;
 use both::Verdict;
 use gauge::LevelRead;
 use libc::STDERR_FILENO;
-
-// The worksheet's figures alone, or the plain engine's behind them.
-pub enum Form {
-    Alone,
-    Both,
-}
+use lines::Form;
 
 // The bytes of the message that names a sheet: its words have 50, and its index at most 20.
 const MESSAGE: usize = 70;
@@ -39,40 +32,6 @@ pub fn worked(form: Form, sheet: &[u8], level: LevelRead) -> Both
     match form {
         Form::Alone => alone(sheet, level),
         Form::Both => both::design_both(sheet, level),
-    }
-}
-
-// The line of a sheet.
-pub fn put_line(
-    form: Form,
-    index: u64,
-    numbers: [i32; design::COUNT],
-    plain: [u64; engine::PLAIN_COUNT],
-    buffer: &mut [u8],
-    at: usize,
-) -> usize
-    ensures { λ r. ⌜ (r ≡ placeAfter (lineIn form index numbers plain) at (now (buffer .entry))) × (now (buffer .exit) ≡ bufferAfter (lineIn form index numbers plain) at (now (buffer .entry))) ⌝ }
-{
-    match form {
-        Form::Alone => lines::put_sheet_line(index, numbers, buffer, at),
-        Form::Both => lines::put_both_line(index, numbers, plain, buffer, at),
-    }
-}
-
-// The line of a route.
-pub fn put_route(form: Form, route: Route, agreed: u64, buffer: &mut [u8], at: usize) -> usize
-    ensures { λ r. ⌜ (r ≡ placeAfter (routeLineOf form route agreed) at (now (buffer .entry))) × (now (buffer .exit) ≡ bufferAfter (routeLineOf form route agreed) at (now (buffer .entry))) ⌝ }
-{
-    match form {
-        Form::Alone => lines::put_route_line(route.sheets, route.answered, route.class, buffer, at),
-        Form::Both => lines::put_both_route_line(
-            route.sheets,
-            route.answered,
-            route.class,
-            agreed,
-            buffer,
-            at,
-        ),
     }
 }
 

@@ -4,12 +4,12 @@ ghost use Prim.Native.Nat.{_≤_};
 ghost use lib.ListN.{length};
 ghost use Rattle.lines.specs.Lines.{lineBytes};
 ghost use Rattle.channel.specs.Printing.{LinesPrinted, TextPrinted};
-use crate::engines::Form;
 use crate::levels::Loaded;
 use crate::reading::Task;
 use crate::worksheets::Source;
 use gauge::LevelRead;
 use libc::STDERR_FILENO;
+use lines::Form;
 use record::Counts;
 
 mod engines;

@@ -5,7 +5,6 @@ ghost use mathlib.Core.List.{[], _∷_};
 ghost use Rattle.channel.specs.Text.{sheetsOf};
 ghost use Rattle.channel.specs.Printing.{progress, sheetsPrinted, printedCount, BlockPrinted, AllPrinted, RoutePrinted};
 use crate::engines;
-use crate::engines::Form;
 use crate::input;
 use crate::input::Filled;
 use crate::output;
@@ -14,6 +13,7 @@ use crate::route;
 use crate::route::Route;
 use gauge::LevelRead;
 use libc::STDIN_FILENO;
+use lines::Form;
 
 // A whole number of sheets.
 pub const BLOCK: usize = 65520;
@@ -40,7 +40,7 @@ fn print_sheet(form: Form, level: LevelRead, sheet: &[u8], buffer: &mut [u8], st
     let verdict = worked.verdict;
     let route = route::with_sheet(so_far, answer);
     let numbers = design::numbers(answer);
-    let after = engines::put_line(form, route.sheets, numbers, plain, buffer, ready.at);
+    let after = lines::put_sheet_line(form, route.sheets, numbers, plain, buffer, ready.at);
     let agreed = engines::with_verdict(state.agreed, verdict);
     engines::tell(route.sheets, verdict);
     State {
@@ -159,7 +159,15 @@ pub fn print_route(form: Form, buffer: &mut [u8], state: State) -> Out
     let route = state.route;
     let out = state.out;
     let ready = output::made_ready(buffer, out, lines::LINE_BYTES);
-    let after = engines::put_route(form, route, state.agreed, buffer, ready.at);
+    let after = lines::put_route_line(
+        form,
+        route.sheets,
+        route.answered,
+        route.class,
+        state.agreed,
+        buffer,
+        ready.at,
+    );
     Out {
         at: after,
         open: ready.open,

@@ -21,7 +21,8 @@ use Rattle.design.specs.Numbers.{numberCount, numbersOf}
 use Rattle.design.specs.Starred.{writing}
 use Rattle.design.proofs.Promises.{all-numbers, numbers-fit}
 use Rattle.lines.specs.Starred.{numbersOfS, lineOfS}
-use Rattle.lines.specs.Lines.{newline, spaced, levelsLine, sheetLine, bothLine, routeLine, bothRouteLine, lineBytes, countBytes, numberBytes, placeWithin, bufferWithin, placeAfter, bufferAfter, Put}
+use Rattle.lines.specs.Lines.{newline, spaced, levelsLine, sheetLine, bothLine, lineIn, routeLine, bothRouteLine, routeLineIn, lineBytes, countBytes, numberBytes, placeWithin, bufferWithin, placeAfter, bufferAfter, Put}
+use Rattle.lines.specs.declared.Form.{Form}
 use Rattle.lines.proofs.decimals.Meaning.{digits-value, digits-decimal, decimal-only}
 use Rattle.lines.proofs.decimals.Texts.{count-text-one, number-text-one, minus-negative}
 use Rattle.lines.proofs.wholes.OneLine.{sheet-line-one, both-line-one, levels-line-one, route-line-one, both-route-line-one}
@@ -169,7 +170,7 @@ count-fits = count-at-most-20
 pub number-fits : (number : ℤ) → SFits w32 number → length (numberText number) ≤ 11
 number-fits = number-at-most
 
--- One answered place and one later content of the buffer, for each of the eight calls.
+-- One answered place and one later content of the buffer, for each of the six calls.
 pub decimal-place-unique : (count at : ℕ) (buffer : List ℕ) (r s : ℕ)
     → r ≡ placeWithin countBytes (countText count) at buffer → s ≡ placeWithin countBytes (countText count) at buffer → r ≡ s
 decimal-place-unique count at buffer = one-answer
@@ -197,21 +198,13 @@ bytes-buffer-unique text at buffer = one-answer
 pub room-unique : (bytes at room : ℕ) (r s : Bool) → r ≡ (at + room ≤ᵇ bytes) → s ≡ (at + room ≤ᵇ bytes) → r ≡ s
 room-unique bytes at room = one-answer
 
-pub sheet-place-unique : (index : ℕ) (numbers : List ℤ) (at : ℕ) (buffer : List ℕ) (r s : ℕ)
-    → r ≡ placeAfter (sheetLine index numbers) at buffer → s ≡ placeAfter (sheetLine index numbers) at buffer → r ≡ s
-sheet-place-unique index numbers at buffer = one-answer
+pub sheet-place-unique : (form : Form) (index : ℕ) (numbers : List ℤ) (plain : List ℕ) (at : ℕ) (buffer : List ℕ) (r s : ℕ)
+    → r ≡ placeAfter (lineIn form index numbers plain) at buffer → s ≡ placeAfter (lineIn form index numbers plain) at buffer → r ≡ s
+sheet-place-unique form index numbers plain at buffer = one-answer
 
-pub sheet-buffer-unique : (index : ℕ) (numbers : List ℤ) (at : ℕ) (buffer now later : List ℕ)
-    → now ≡ bufferAfter (sheetLine index numbers) at buffer → later ≡ bufferAfter (sheetLine index numbers) at buffer → now ≡ later
-sheet-buffer-unique index numbers at buffer = one-answer
-
-pub both-place-unique : (index : ℕ) (numbers : List ℤ) (plain : List ℕ) (at : ℕ) (buffer : List ℕ) (r s : ℕ)
-    → r ≡ placeAfter (bothLine index numbers plain) at buffer → s ≡ placeAfter (bothLine index numbers plain) at buffer → r ≡ s
-both-place-unique index numbers plain at buffer = one-answer
-
-pub both-buffer-unique : (index : ℕ) (numbers : List ℤ) (plain : List ℕ) (at : ℕ) (buffer now later : List ℕ)
-    → now ≡ bufferAfter (bothLine index numbers plain) at buffer → later ≡ bufferAfter (bothLine index numbers plain) at buffer → now ≡ later
-both-buffer-unique index numbers plain at buffer = one-answer
+pub sheet-buffer-unique : (form : Form) (index : ℕ) (numbers : List ℤ) (plain : List ℕ) (at : ℕ) (buffer now later : List ℕ)
+    → now ≡ bufferAfter (lineIn form index numbers plain) at buffer → later ≡ bufferAfter (lineIn form index numbers plain) at buffer → now ≡ later
+sheet-buffer-unique form index numbers plain at buffer = one-answer
 
 pub levels-place-unique : (added missing refused at : ℕ) (buffer : List ℕ) (r s : ℕ)
     → r ≡ placeAfter (levelsLine added missing refused) at buffer → s ≡ placeAfter (levelsLine added missing refused) at buffer → r ≡ s
@@ -222,23 +215,14 @@ pub levels-buffer-unique : (added missing refused at : ℕ) (buffer now later : 
     → now ≡ later
 levels-buffer-unique added missing refused at buffer = one-answer
 
-pub route-place-unique : (sheets answered class at : ℕ) (buffer : List ℕ) (r s : ℕ)
-    → r ≡ placeAfter (routeLine sheets answered class) at buffer → s ≡ placeAfter (routeLine sheets answered class) at buffer → r ≡ s
-route-place-unique sheets answered class at buffer = one-answer
+pub route-place-unique : (form : Form) (sheets answered class agreed at : ℕ) (buffer : List ℕ) (r s : ℕ)
+    → r ≡ placeAfter (routeLineIn form sheets answered class agreed) at buffer → s ≡ placeAfter (routeLineIn form sheets answered class agreed) at buffer → r ≡ s
+route-place-unique form sheets answered class agreed at buffer = one-answer
 
-pub route-buffer-unique : (sheets answered class at : ℕ) (buffer now later : List ℕ)
-    → now ≡ bufferAfter (routeLine sheets answered class) at buffer → later ≡ bufferAfter (routeLine sheets answered class) at buffer
+pub route-buffer-unique : (form : Form) (sheets answered class agreed at : ℕ) (buffer now later : List ℕ)
+    → now ≡ bufferAfter (routeLineIn form sheets answered class agreed) at buffer → later ≡ bufferAfter (routeLineIn form sheets answered class agreed) at buffer
     → now ≡ later
-route-buffer-unique sheets answered class at buffer = one-answer
-
-pub both-route-place-unique : (sheets answered class agreed at : ℕ) (buffer : List ℕ) (r s : ℕ)
-    → r ≡ placeAfter (bothRouteLine sheets answered class agreed) at buffer → s ≡ placeAfter (bothRouteLine sheets answered class agreed) at buffer → r ≡ s
-both-route-place-unique sheets answered class agreed at buffer = one-answer
-
-pub both-route-buffer-unique : (sheets answered class agreed at : ℕ) (buffer now later : List ℕ)
-    → now ≡ bufferAfter (bothRouteLine sheets answered class agreed) at buffer → later ≡ bufferAfter (bothRouteLine sheets answered class agreed) at buffer
-    → now ≡ later
-both-route-buffer-unique sheets answered class agreed at buffer = one-answer
+route-buffer-unique form sheets answered class agreed at buffer = one-answer
 
 -- The lines of the definition's sample: L 0 0 0, the numbers and the line of S's design over any table, R 1 1 0.
 pub starred-levels : levelsLine 0 0 0 ≡ 76 ∷ 32 ∷ 48 ∷ 32 ∷ 48 ∷ 32 ∷ 48 ∷ 10 ∷ []

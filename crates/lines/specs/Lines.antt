@@ -8,6 +8,8 @@ use Rattle.laws.specs.Choice.{if_then_else_, _≤ᵇ_}
 use Rattle.engine.specs.Numbers.{plainCount}
 use Rattle.design.specs.Numbers.{numberCount}
 use Rattle.lines.specs.Decimals.{countText, numberText}
+use Rattle.lines.specs.declared.Form.{Form}
+use Rattle.lines.specs.declared.Form.the-variants.{Alone, Both}
 
 -- the bytes of a space, a newline, `L` and `R`
 abbrev pub space : ℕ
@@ -35,13 +37,23 @@ lineText first others = (first ++ spaced others) ++ newline ∷ []
 unfoldable pub levelsLine : ℕ → ℕ → ℕ → List ℕ
 levelsLine added missing refused = lineText (letterL ∷ []) (map countText (added ∷ missing ∷ refused ∷ []))
 
--- the line of a sheet: its index and its numbers
+-- the line of a sheet by the worksheet alone: its index and its numbers
 unfoldable pub sheetLine : ℕ → List ℤ → List ℕ
 sheetLine index numbers = lineText (countText index) (map numberText numbers)
 
 -- the line of a sheet by both engines: its index, its numbers, and the plain engine's
 unfoldable pub bothLine : ℕ → List ℤ → List ℕ → List ℕ
 bothLine index numbers plain = lineText (countText index) (map numberText numbers ++ map countText plain)
+
+-- the line in a form
+abbrev pub lineIn : Form → ℕ → List ℤ → List ℕ → List ℕ
+lineIn Alone index numbers plain = sheetLine index numbers
+lineIn Both index numbers plain = bothLine index numbers plain
+
+-- what stands in it behind the numbers
+abbrev pub plainText : Form → List ℕ → List ℕ
+plainText Alone plain = []
+plainText Both plain = spaced (map countText plain)
 
 -- the last line: R, sheets, answered, route class
 unfoldable pub routeLine : ℕ → ℕ → ℕ → List ℕ
@@ -50,6 +62,11 @@ routeLine sheets answered class = lineText (letterR ∷ []) (map countText (shee
 -- the last line by both engines: on how many sheets they agreed behind it
 unfoldable pub bothRouteLine : ℕ → ℕ → ℕ → ℕ → List ℕ
 bothRouteLine sheets answered class agreed = lineText (letterR ∷ []) (map countText (sheets ∷ answered ∷ class ∷ agreed ∷ []))
+
+-- the line in a form
+abbrev pub routeLineIn : Form → ℕ → ℕ → ℕ → ℕ → List ℕ
+routeLineIn Alone sheets answered class agreed = routeLine sheets answered class
+routeLineIn Both sheets answered class agreed = bothRouteLine sheets answered class agreed
 
 -- the bytes that a line is given: none has more than 12 for each number of a sheet, 21 for each of the plain engine's, and 21 for its index and the newline
 abbrev pub lineBytes : ℕ

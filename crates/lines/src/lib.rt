@@ -1,13 +1,13 @@
 // The lines of the printing program: their text in decimal, put into a lent buffer.
 ghost use mathlib.Core.Path.{_≡_};
-ghost use mathlib.Core.List.{[], _∷_, _++_, map};
+ghost use mathlib.Core.List.{[], _∷_, map};
 ghost use Prim.Native.Nat.{_+_, _-_, _*_, _≤_, _<_};
 ghost use lib.IntN.{natAbs};
 ghost use lib.ListN.{length, take, drop};
 ghost use Rattle.laws.specs.Choice.{_≤ᵇ_};
 ghost use Rattle.design.specs.Numbers.{numberCount};
 ghost use Rattle.lines.specs.Decimals.{digits, countText, numberText};
-ghost use Rattle.lines.specs.Lines.{lineBytes, spaced, lineText, sheetLine, bothLine, levelsLine, routeLine, bothRouteLine, countBytes, numberBytes, placeWithin, bufferWithin, placeAfter, bufferAfter, Put};
+ghost use Rattle.lines.specs.Lines.{lineBytes, plainCount, spaced, lineText, plainText, lineIn, levelsLine, routeLineIn, countBytes, numberBytes, placeWithin, bufferWithin, placeAfter, bufferAfter, Put};
 use design::COUNT;
 use engine::PLAIN_COUNT;
 
@@ -32,30 +32,28 @@ const LETTER_L: u8 = 76;
 
 const LETTER_R: u8 = 82;
 
-// Puts the line of a sheet at a place and answers the place after it; the same place, and nothing put, where no line fits.
-pub fn put_sheet_line(index: u64, numbers: [i32; COUNT], buffer: &mut [u8], at: usize) -> usize
-    ensures { λ r. ⌜ (r ≡ placeAfter (sheetLine index numbers) at (now (buffer .entry))) × (now (buffer .exit) ≡ bufferAfter (sheetLine index numbers) at (now (buffer .entry))) ⌝ }
-{
-    if !line_fits(buffer.len(), at) {
-        return at;
-    }
-    put_index_line(index, numbers, buffer, at)
+// The worksheet's figures alone, or the plain engine's behind them.
+pub enum Form {
+    Alone,
+    Both,
 }
 
-// The line of a sheet with the plain engine's figures behind its numbers, likewise.
-pub fn put_both_line(
+// Puts the line of a sheet at a place and answers the place after it; the same place, and nothing put, where no line fits.
+// One call for both forms: the compiler then lays the line out in the loop over the sheets.
+pub fn put_sheet_line(
+    form: Form,
     index: u64,
     numbers: [i32; COUNT],
     plain: [u64; PLAIN_COUNT],
     buffer: &mut [u8],
     at: usize,
 ) -> usize
-    ensures { λ r. ⌜ (r ≡ placeAfter (bothLine index numbers plain) at (now (buffer .entry))) × (now (buffer .exit) ≡ bufferAfter (bothLine index numbers plain) at (now (buffer .entry))) ⌝ }
+    ensures { λ r. ⌜ (r ≡ placeAfter (lineIn form index numbers plain) at (now (buffer .entry))) × (now (buffer .exit) ≡ bufferAfter (lineIn form index numbers plain) at (now (buffer .entry))) ⌝ }
 {
     if !line_fits(buffer.len(), at) {
         return at;
     }
-    put_longer_line(index, numbers, plain, buffer, at)
+    put_index_line(form, index, numbers, plain, buffer, at)
 }
 
 // The first line likewise: the readings added, missing and refused.
@@ -74,18 +72,9 @@ pub fn put_levels_line(
     put_letter_line(LETTER_L, &[added, missing, refused], buffer, at)
 }
 
-// The last line likewise: the sheets, those answered, and the route's class.
-pub fn put_route_line(sheets: u64, answered: u64, class: u8, buffer: &mut [u8], at: usize) -> usize
-    ensures { λ r. ⌜ (r ≡ placeAfter (routeLine sheets answered class) at (now (buffer .entry))) × (now (buffer .exit) ≡ bufferAfter (routeLine sheets answered class) at (now (buffer .entry))) ⌝ }
-{
-    if !line_fits(buffer.len(), at) {
-        return at;
-    }
-    put_letter_line(LETTER_R, &[sheets, answered, class as u64], buffer, at)
-}
-
-// The last line with one number more, on how many sheets the two engines agreed.
-pub fn put_both_route_line(
+// The last line likewise: the sheets, those answered, and the route's class; by both engines on how many sheets they agreed, too.
+pub fn put_route_line(
+    form: Form,
     sheets: u64,
     answered: u64,
     class: u8,
@@ -93,17 +82,12 @@ pub fn put_both_route_line(
     buffer: &mut [u8],
     at: usize,
 ) -> usize
-    ensures { λ r. ⌜ (r ≡ placeAfter (bothRouteLine sheets answered class agreed) at (now (buffer .entry))) × (now (buffer .exit) ≡ bufferAfter (bothRouteLine sheets answered class agreed) at (now (buffer .entry))) ⌝ }
+    ensures { λ r. ⌜ (r ≡ placeAfter (routeLineIn form sheets answered class agreed) at (now (buffer .entry))) × (now (buffer .exit) ≡ bufferAfter (routeLineIn form sheets answered class agreed) at (now (buffer .entry))) ⌝ }
 {
     if !line_fits(buffer.len(), at) {
         return at;
     }
-    put_letter_line(
-        LETTER_R,
-        &[sheets, answered, class as u64, agreed],
-        buffer,
-        at,
-    )
+    put_last_line(form, sheets, answered, class as u64, agreed, buffer, at)
 }
 
 // Puts a count at a place and answers the place after it; the same place, and nothing put, where 20 bytes do not fit.
@@ -166,18 +150,9 @@ fn copy_bytes(text: &[u8], buffer: &mut [u8], at: usize) -> usize
     at + j
 }
 
-// A line of an index and the numbers of a sheet.
-fn put_index_line(index: u64, numbers: [i32; COUNT], buffer: &mut [u8], at: usize) -> usize
-    requires { ⌜ at + lineBytes ≤ length (now buffer) ⌝ }
-    ensures { λ r. ⌜ Put (now (buffer .entry)) at (lineText (countText index) (map numberText numbers)) (now (buffer .exit)) r ⌝ }
-{
-    let last = put_indexed(index, numbers, buffer, at);
-    buffer[last] = NEWLINE;
-    last + 1
-}
-
-// The same with counts behind the numbers.
-fn put_longer_line(
+// A line of an index, the numbers of a sheet and those of the plain engine.
+fn put_index_line(
+    form: Form,
     index: u64,
     numbers: [i32; COUNT],
     plain: [u64; PLAIN_COUNT],
@@ -185,21 +160,43 @@ fn put_longer_line(
     at: usize,
 ) -> usize
     requires { ⌜ at + lineBytes ≤ length (now buffer) ⌝ }
-    ensures { λ r. ⌜ Put (now (buffer .entry)) at (lineText (countText index) (map numberText numbers ++ map countText plain)) (now (buffer .exit)) r ⌝ }
+    ensures { λ r. ⌜ Put (now (buffer .entry)) at (lineIn form index numbers plain) (now (buffer .exit)) r ⌝ }
 {
-    let middle = put_indexed(index, numbers, buffer, at);
-    let last = put_counts(&plain, buffer, middle);
+    let first = put_count(index, buffer, at);
+    let middle = put_numbers(numbers, buffer, first);
+    let last = put_plain(form, plain, buffer, middle);
     buffer[last] = NEWLINE;
     last + 1
 }
 
-// An index, and the numbers of a sheet behind it.
-fn put_indexed(index: u64, numbers: [i32; COUNT], buffer: &mut [u8], at: usize) -> usize
-    requires { ⌜ at + 12 * numberCount + 36 ≤ length (now buffer) ⌝ }
-    ensures { λ r. ⌜ Put (now (buffer .entry)) at (countText index ++ spaced (map numberText numbers)) (now (buffer .exit)) r × (r ≤ at + 12 * numberCount + 20) ⌝ }
+// The plain engine's numbers, where the form has them.
+fn put_plain(form: Form, plain: [u64; PLAIN], buffer: &mut [u8], at: usize) -> usize
+    requires { ⌜ at + 21 * plainCount ≤ length (now buffer) ⌝ }
+    ensures { λ r. ⌜ Put (now (buffer .entry)) at (plainText form plain) (now (buffer .exit)) r × (r ≤ at + 21 * plainCount) ⌝ }
 {
-    let first = put_count(index, buffer, at);
-    put_numbers(numbers, buffer, first)
+    match form {
+        Form::Alone => at,
+        Form::Both => put_counts(&plain, buffer, at),
+    }
+}
+
+// The last line, where it fits.
+fn put_last_line(
+    form: Form,
+    sheets: u64,
+    answered: u64,
+    class: u64,
+    agreed: u64,
+    buffer: &mut [u8],
+    at: usize,
+) -> usize
+    requires { ⌜ at + lineBytes ≤ length (now buffer) ⌝ }
+    ensures { λ r. ⌜ Put (now (buffer .entry)) at (routeLineIn form sheets answered class agreed) (now (buffer .exit)) r ⌝ }
+{
+    match form {
+        Form::Alone => put_letter_line(LETTER_R, &[sheets, answered, class], buffer, at),
+        Form::Both => put_letter_line(LETTER_R, &[sheets, answered, class, agreed], buffer, at),
+    }
 }
 
 // A line of a letter and counts.

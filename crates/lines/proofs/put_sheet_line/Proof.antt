@@ -1,12 +1,11 @@
 -- `lines::put_sheet_line` meets its contract: where a line fits, and where none does.
 use borrow.Author.Needs.{needs}
-use Rattle.lines.specs.Lines.{lineBytes, sheetLine}
+use Rattle.lines.specs.Lines.{lineBytes}
 use Rattle.lines.proofs.putting.Fitting.{room, unfit, fitting}
 use Rattle.lines.proofs.put_sheet_line.Statement.{statement}
 use Rattle.lines.proofs.put_sheet_line.Tie as tie
 
 returns-2 : tie.Need-returns-2
-unfolding sheetLine
 returns-2 c =
     let g = c .before .before .before .before in
     fitting lineBytes _ _ _ (g .before .line-fits .ensures) (g .if1 .left) (c .before .before .put-index-line .ensures)

@@ -13,7 +13,7 @@ returns c =
     let ready = put .before .before in
     let a = c .before .before .before .before .before .before .before .before .before .args in
     line-put lineBytes (routeLineOf (a .form) (a .state .route) (a .state .agreed)) (record { at = a .state .out .at; buffer = now (a .buffer) }) _ _ _ (ready .made-ready .ensures)
-    (put .put-route .ensures .0) (put .put-route .ensures .1)
+    (put .put-route-line .ensures .0) (put .put-route-line .ensures .1)
 
 pub print-route-spec : {M : Type 1} → statement M
 print-route-spec = tie.close (tie.spec (λ c κs. search needs) (λ c κs. search needs) (λ c. search needs) returns)

@@ -13,7 +13,7 @@ returns c =
     let worked = joined .before .before in
     let ready = worked .before in
     line-printed _ _ _ _ _ (worked .worked .result) _ _ _ _ _ (ready .made-ready .ensures) (worked .worked .ensures) (joined .with-sheet .ensures)
-    (numbered .numbers .ensures) (put .put-line .ensures .0) (put .put-line .ensures .1) (counted .with-verdict .ensures)
+    (numbered .numbers .ensures) (put .put-sheet-line .ensures .0) (put .put-sheet-line .ensures .1) (counted .with-verdict .ensures)
 
 pub print-sheet-spec : {M : Type 1} → statement M
 print-sheet-spec =
