@@ -89,15 +89,15 @@ pub sheet-line-fits : (index : ℕ) (numbers : List ℤ) → index < 2 ^ 64 → 
     → length (sheetLine index numbers) ≤ 12 * numberCount + 21
 sheet-line-fits = sheet-line-size
 
-pub both-line-fits : (index : ℕ) (numbers : List ℤ) (plain : List ℕ) → index < 2 ^ 64 → length numbers ≡ numberCount → Each (SFits w32) numbers
-    → length plain ≡ plainCount → Each (λ (n : ℕ). n < 2 ^ 64) plain → length (bothLine index numbers plain) ≤ lineBytes
-both-line-fits = both-line-size
-
 -- So has the line of a design.
 pub design-line-fits : (index : ℕ) (bytes table : List ℕ) → index < 2 ^ 64 → Bytes bytes
     → length (sheetLine index (numbersOf (designOf bytes table))) ≤ 12 * numberCount + 21
 design-line-fits index bytes table held small =
     sheet-line-fits index (numbersOf (designOf bytes table)) held (all-numbers (designOf bytes table)) (numbers-fit bytes table small)
+
+pub both-line-fits : (index : ℕ) (numbers : List ℤ) (plain : List ℕ) → index < 2 ^ 64 → length numbers ≡ numberCount → Each (SFits w32) numbers
+    → length plain ≡ plainCount → Each (λ (n : ℕ). n < 2 ^ 64) plain → length (bothLine index numbers plain) ≤ lineBytes
+both-line-fits = both-line-size
 
 pub levels-line-fits : (added missing refused : ℕ) → added < 2 ^ 64 → missing < 2 ^ 64 → refused < 2 ^ 64
     → length (levelsLine added missing refused) ≤ 65

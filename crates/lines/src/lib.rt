@@ -5,11 +5,11 @@ ghost use Prim.Native.Nat.{_+_, _-_, _*_, _≤_, _<_};
 ghost use lib.IntN.{natAbs};
 ghost use lib.ListN.{length, take, drop};
 ghost use Rattle.laws.specs.Choice.{_≤ᵇ_};
+ghost use Rattle.engine.specs.Numbers.{plainCount};
 ghost use Rattle.design.specs.Numbers.{numberCount};
 ghost use Rattle.lines.specs.Decimals.{digits, countText, numberText};
-ghost use Rattle.lines.specs.Lines.{lineBytes, plainCount, spaced, lineText, plainText, lineIn, levelsLine, routeLineIn, countBytes, numberBytes, placeWithin, bufferWithin, placeAfter, bufferAfter, Put};
+ghost use Rattle.lines.specs.Lines.{lineBytes, spaced, lineText, plainText, lineIn, levelsLine, routeLineIn, countBytes, numberBytes, placeWithin, bufferWithin, placeAfter, bufferAfter, Put};
 use design::COUNT;
-use engine::PLAIN_COUNT;
 
 // The bytes that a line is given: the longest has 12 for each number of a sheet, 21 for each of the plain engine's, and 21 for its index and the newline.
 pub const LINE_BYTES: usize = 12 * COUNT + 21 * PLAIN_COUNT + 21;
@@ -170,7 +170,7 @@ fn put_index_line(
 }
 
 // The plain engine's numbers, where the form has them.
-fn put_plain(form: Form, plain: [u64; PLAIN], buffer: &mut [u8], at: usize) -> usize
+fn put_plain(form: Form, plain: [u64; PLAIN_COUNT], buffer: &mut [u8], at: usize) -> usize
     requires { ⌜ at + 21 * plainCount ≤ length (now buffer) ⌝ }
     ensures { λ r. ⌜ Put (now (buffer .entry)) at (plainText form plain) (now (buffer .exit)) r × (r ≤ at + 21 * plainCount) ⌝ }
 {
