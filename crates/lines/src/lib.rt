@@ -10,6 +10,7 @@ ghost use Rattle.design.specs.Numbers.{numberCount};
 ghost use Rattle.lines.specs.Decimals.{digits, countText, numberText};
 ghost use Rattle.lines.specs.Lines.{lineBytes, spaced, lineText, plainText, lineIn, levelsLine, routeLineIn, countBytes, numberBytes, placeWithin, bufferWithin, placeAfter, bufferAfter, Put};
 use design::COUNT;
+use engine::PLAIN_COUNT;
 
 // The bytes that a line is given: the longest has 12 for each number of a sheet, 21 for each of the plain engine's, and 21 for its index and the newline.
 pub const LINE_BYTES: usize = 12 * COUNT + 21 * PLAIN_COUNT + 21;
