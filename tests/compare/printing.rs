@@ -212,6 +212,8 @@ const S: [i64; FIELDS] = [
 ];
 
 const S_PRINTED: &str = "L 0 0 0\n1 0 0 0 1 1170 1170 1170 14400 0 2 0 0 1\nR 1 1 0\n";
+const S_PRINTED_BY_BOTH: &str =
+    "L 0 0 0\n1 0 0 0 1 1170 1170 1170 14400 0 2 0 0 1 0 1170 1170\nR 1 1 0 1\n";
 
 /// Places in a sheet's line.
 const CODE: usize = 1;
@@ -319,25 +321,26 @@ const FIGURES_OF_BOTH: &[(&[(usize, i64)], [i64; 4])] = &[
     (&[(25, 30), (26, 999)], [7, 0, 0, 0]),
 ];
 
+/// The text of the second form, beside which nothing is said.
+fn printed_by_both(input: &[u8]) -> String {
+    let (text, said) = written("figures", "both", input);
+    assert_eq!(String::from_utf8_lossy(&said), "", "the engines agree");
+    String::from_utf8(text).expect("the text is plain")
+}
+
 /// The second form: S as printed, and the case of each line; all but the last two come to a depth.
 fn figures_of_both(report: &mut Report) {
-    let said_of = |input: &[u8]| {
-        let (text, said) = written("figures", "both", input);
-        assert!(said.is_empty(), "the engines agree");
-        text
-    };
-    let text = said_of(&s_with(&[]));
-    let wanted = "L 0 0 0\n1 0 0 0 1 1170 1170 1170 14400 0 2 0 0 1 0 1170 1170\nR 1 1 0 1\n";
-    report.case(&*String::from_utf8_lossy(&text), wanted, || {
+    let text = printed_by_both(&s_with(&[]));
+    report.case(&*text, S_PRINTED_BY_BOTH, || {
         "S in the second form".to_string()
     });
     let changed = FIGURES_OF_BOTH.iter();
     let input: Vec<u8> = changed.flat_map(|(changes, _)| s_with(changes)).collect();
-    let text = said_of(&input);
-    report.case(text.ends_with(b"\nR 10 3 0 8\n"), true, || {
+    let text = printed_by_both(&input);
+    report.case(text.lines().last(), Some("R 10 3 0 8"), || {
         "the route in the second form".to_string()
     });
-    for (line, (changes, wanted)) in lines_of(&text).iter().zip(FIGURES_OF_BOTH) {
+    for (line, (changes, wanted)) in lines_of(text.as_bytes()).iter().zip(FIGURES_OF_BOTH) {
         let plain = &line[line.len() - 3..];
         let got = [line[CODE], plain[0], plain[1], plain[2]];
         report.case(got, *wanted, || {
