@@ -13,8 +13,8 @@ use std::sync::atomic::{AtomicU64, Ordering};
 const RECORDS: u64 = 64;
 const SHEETS: usize = 16_000;
 
-/// Sheets of a record in the second form, whose plain engine is slow.
-const SHEETS_OF_BOTH: usize = 1_000;
+/// Sheets of a record in the second form, whose plain engine is slow: more than a block of input, or of output, holds.
+const SHEETS_OF_BOTH: usize = 3_000;
 
 /// The sheet of a line, counted from 0; the first line is the record's.
 fn sheet_of(input: &[u8], line: usize) -> String {
@@ -373,7 +373,7 @@ pub fn printing() {
     report.add(block_ends(&mut Random::new(7)));
     report.add(in_parts("printing", RECORDS, record));
     report.end();
-    let (mut of_both, seen) = (Report::new("printing, second form", 64_000), Seen::new());
+    let (mut of_both, seen) = (Report::new("printing, second form", 192_000), Seen::new());
     let part = |number| record_of_both(number, &seen);
     of_both.add(in_parts("printing, second form", RECORDS, part));
     seen.saw_all();
