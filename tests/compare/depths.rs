@@ -293,7 +293,7 @@ fn named(mut each: impl FnMut(i64, i64, i64, i64)) {
 pub fn depths() {
     let mut depths = Depths {
         handles: Handles::start(),
-        report: Report::new("depths", 800_000),
+        report: Report::new("depths", 730_000),
         seen: Seen::default(),
     };
     let mut rng = Random::new(5);
@@ -311,15 +311,15 @@ pub fn depths() {
         }
     });
     // the plain engine is slow, so that it is asked for only some of these
-    for _ in 0..50_000 {
+    for _ in 0..30_000 {
         depths.both(&some_inputs(&mut rng));
     }
-    for _ in 0..240_000 {
+    for _ in 0..260_000 {
         let inputs = some_inputs(&mut rng);
         depths.worksheet(&inputs, depth::by_tries(&inputs));
     }
     depths.seen.of_sheets();
-    for _ in 0..20_000 {
+    for _ in 0..10_000 {
         let inputs = some_inputs(&mut rng);
         depths.both(&near_limits(&inputs, &mut rng));
         depths.both(&outside(&inputs, &mut rng));
