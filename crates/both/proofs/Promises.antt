@@ -25,7 +25,7 @@ use Rattle.design.specs.declared.Answer.{Answer}
 use Rattle.design.specs.declared.Answer.the-variants.{Answered, Refused}
 use Rattle.both.specs.declared.Both.{Both}
 use Rattle.both.specs.declared.Verdict.the-variants.{NotCome, Agreed, Differed}
-use Rattle.both.specs.Both.{cameTo, uncounted, bothOf, DepthReached, DesignedAt, stretchIn}
+use Rattle.both.specs.Both.{cameTo, uncounted, notCome, bothOf, DepthReached, DesignedAt, stretchIn}
 use Rattle.both.proofs.Engines as engines
 use Rattle.both.proofs.Agreeing as agreeing
 use Rattle.both.proofs.Codes.{came-exactly}
@@ -71,6 +71,9 @@ module _ (bytes : List ℕ) (read : LevelRead) where
       × (s ≡ sailing (stretchIn at) (ownColumn (stretchIn at) d)))
   beside-no-speed = agreeing.no-speed-plain bytes read
 
-  -- The call has one result.
+  -- Each call has one result.
   pub one-both : (r s : Both) → r ≡ bothOf bytes read → s ≡ bothOf bytes read → r ≡ s
   one-both = one-answer
+
+pub not-come-unique : (answer : Answer) (r s : Both) → r ≡ notCome answer → s ≡ notCome answer → r ≡ s
+not-come-unique answer = one-answer

@@ -70,8 +70,8 @@ fn verdict_of(worked: [u64; PLAIN_COUNT], plain: [u64; PLAIN_COUNT]) -> Verdict
     Verdict::Differed
 }
 
-// A sheet that is refused before its depth.
-fn not_come(answer: Answer) -> Both
+// An answer with nothing of the plain engine: of a sheet that is refused before its depth, or where that engine is not asked.
+pub fn not_come(answer: Answer) -> Both
     ensures { λ r. ⌜ r ≡ notCome answer ⌝ }
 {
     Both {

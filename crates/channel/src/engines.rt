@@ -1,6 +1,5 @@
 // The two engines: what is worked of a sheet in each form, and what becomes of the verdict.
 ghost use mathlib.Core.Path.{_≡_};
-ghost use Rattle.lines.specs.declared.Form.the-variants.{Alone};
 ghost use Rattle.channel.specs.Text.{withVerdict};
 ghost use Rattle.channel.specs.Printing.{workedIn};
 use crate::output;
@@ -13,24 +12,12 @@ use lines::Form;
 // The bytes of the message that names a sheet: its words have 50, and its index at most 20.
 const MESSAGE: usize = 70;
 
-// The worksheet's answer, with none of the plain engine's figures.
-fn alone(sheet: &[u8], level: LevelRead) -> Both
-    ensures { λ r. ⌜ r ≡ workedIn Alone (now (sheet .entry)) level ⌝ }
-{
-    let answer = design::design_at(sheet, level);
-    Both {
-        answer,
-        plain: [0, 0, 0],
-        verdict: Verdict::NotCome,
-    }
-}
-
-// What is worked of a sheet.
+// What is worked of a sheet: the worksheet's answer alone, or both engines.
 pub fn worked(form: Form, sheet: &[u8], level: LevelRead) -> Both
     ensures { λ r. ⌜ r ≡ workedIn form (now (sheet .entry)) level ⌝ }
 {
     match form {
-        Form::Alone => alone(sheet, level),
+        Form::Alone => both::not_come(design::design_at(sheet, level)),
         Form::Both => both::design_both(sheet, level),
     }
 }
