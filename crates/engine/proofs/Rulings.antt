@@ -12,17 +12,18 @@ use Rattle.depth.specs.declared.Column.{Column}
 use Rattle.depth.specs.declared.Column.the-variants.{A}
 use Rattle.depth.specs.declared.DepthFault.the-variants.{NoSquatEntry, CutOver}
 use Rattle.depth.specs.Squat.{none, columnNumber}
-use Rattle.depth.specs.Depth.{z3, naturalOf, sailing, z4, Deep, Serves, ownColumn, Meets}
+use Rattle.depth.specs.Depth.{z3, naturalOf, sailing, z4, Deep, ownColumn, Meets}
 use Rattle.depth.specs.Reasons.{IsFigure, Usable, Fails as FailsBy, Comes, there, by-way-of, FirstUnusable}
 use Rattle.depth.proofs.squat.Columns.{column-most, same-column}
 use Rattle.depth.proofs.cuts.LeastCut.{served-some}
+use Rattle.depth.proofs.cuts.Reasons.{usable-serves}
 use Rattle.depth.proofs.Promises.{figure-of-its-silt, never-falls-back}
 use Rattle.engine.specs.declared.Search.{Search}
 use Rattle.engine.specs.declared.Search.the-variants.{At, Nowhere}
 use Rattle.engine.specs.declared.Ruling.{Ruling}
 use Rattle.engine.specs.declared.Ruling.the-variants.{Fails, FallsIn}
 use Rattle.engine.specs.Plain.{deep, byFigure, byRuling, firstFigure, rulingOf, reasonFrom}
-use Rattle.engine.proofs.Searches.{Searched, searched}
+use Rattle.engine.proofs.Searches.{Searched, searched, found-least}
 use Rattle.engine.proofs.Serving.{fails-not, deep-exactly}
 
 module _ (q : Stretch) where
@@ -38,11 +39,7 @@ module _ (q : Stretch) where
 
     -- the first from s on is the figure
     found-figure : (e : ℕ) → Searched (deep q c) (sailing q c) 121 (At e) → IsFigure q c e
-    found-figure e f = record { holds = deep-exactly q c e .0 (f .2); least = λ m deep. go m deep (leb e m) refl }
-      where
-        go : (m : ℕ) → Deep q c m → (b : Bool) → leb e m ≡ b → e ≤ m
-        go m deep true t = leb-true _ _ t
-        go m deep false t = absurd (fails-not _ (deep-exactly q c m) (f .3 m (not-under m deep) (leb-false _ _ t)) deep)
+    found-figure e f = found-least (deep q c) (sailing q c) 121 (Deep q c) (λ m. deep-exactly q c m .1) not-under e f (deep-exactly q c e .0 (f .2))
 
     found-silt : (e : ℕ) → Searched (deep q c) (sailing q c) 121 (At e) → z4 q c e ≤ 120
     found-silt e f = omega (arith, f .1, found-figure e f .holds)
@@ -84,7 +81,7 @@ module _ (q : Stretch) where
     -- a column that can be used has its figure elsewhere: in its own it would meet the definition
     falls-elsewhere : (c : Column) (d : ℕ) → Usable q c d → ownColumn q d ≢ c
     falls-elsewhere c d u same =
-        let v : Serves q c d = record { entry = u .entry; silt = u .silt; deep = u .figure .holds } in
+        let v = usable-serves q c d u in
         none-meets d (record { from = served-some q c d v; to = u .to; served = rw same v })
 
     -- in a later one, as none falls back

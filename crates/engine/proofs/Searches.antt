@@ -1,9 +1,12 @@
 -- A search by its steps, and what it found: the first depth that passes, or none.
-use mathlib.Core.Path.{_≡_, sym, ap, _∙_}
-use mathlib.Core.Bool.{Bool, true, false}
+use mathlib.Core.Path.{_≡_, refl, sym, ap, _∙_}
+use mathlib.Core.Bool.{Bool, true, false, true≢false}
 use Prim.Native.Nat.{ℕ, _+_, _-_, _≤_, _<_}
 use native.Mathlib.Numerals.{add-one}
 use native.Mathlib.Omega.{arith}
+use borrow.Author.Tests.{leb-true, leb-false}
+use lib.Dec.{leb}
+use Rattle.laws.specs.Extremes.{Least}
 use Rattle.laws.specs.First.{firstFrom}
 use Rattle.laws.proofs.First.{Told, found, nowhere, tell, first-end, first-here, first-on}
 use Rattle.engine.specs.Plain.{found as foundAt, firstDepth}
@@ -42,3 +45,12 @@ module _ (passes : ℕ → Bool) (d many : ℕ) where
   pub searched : Searched passes d many (firstDepth passes d many)
   unfolding firstDepth
   searched = by-told (firstFrom passes d many) (tell passes d many)
+
+  -- where a rule holds only of what passes, and of nothing before d, the first depth that passes is the least
+  pub found-least : (P : ℕ → Type 0) → ((k : ℕ) → P k → passes k ≡ true) → ((k : ℕ) → P k → d ≤ k)
+      → (e : ℕ) → Searched passes d many (At e) → P e → Least P e
+  found-least P passing from e f holds = record { holds = holds; least = λ m p. go m p (leb e m) refl }
+    where
+      go : (m : ℕ) → P m → (b : Bool) → leb e m ≡ b → e ≤ m
+      go m p true t = leb-true _ _ t
+      go m p false t = absurd (true≢false (sym (passing m p) ∙ f .3 m (from m p) (leb-false _ _ t)))

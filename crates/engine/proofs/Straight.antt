@@ -1,10 +1,8 @@
 -- The plain engine is the definition, read straight: its cut is the least that meets it, and where it has none, none does.
 use mathlib.Core.Path.{_≡_, refl, subst}
-use mathlib.Core.Bool.{Bool, true, false}
-use Prim.Native.Nat.{ℕ, _^_, _≤_, _<_}
+use mathlib.Core.Bool.{true, false}
+use Prim.Native.Nat.{ℕ, _^_, _<_}
 use native.Mathlib.Omega.{arith}
-use borrow.Author.Tests.{leb-true, leb-false}
-use lib.Dec.{leb}
 use Rattle.laws.specs.Extremes.{Least}
 use Rattle.depth.specs.declared.Stretch.{Stretch}
 use Rattle.depth.specs.declared.Column.the-variants.{A}
@@ -14,7 +12,7 @@ use Rattle.engine.specs.declared.Search.{Search}
 use Rattle.engine.specs.declared.Search.the-variants.{At, Nowhere}
 use Rattle.engine.specs.Plain.{meets, firstCut, reasonOf, figuresAt, bySearch, plainDepth}
 use Rattle.engine.specs.Meaning.{AsRead}
-use Rattle.engine.proofs.Searches.{Searched, searched}
+use Rattle.engine.proofs.Searches.{Searched, searched, found-least}
 use Rattle.engine.proofs.Serving.{fails-not, meets-exactly}
 use Rattle.engine.proofs.Rulings.{reasoned}
 
@@ -24,14 +22,9 @@ module _ (q : Stretch) where
   passed d e m = fails-not _ (meets-exactly q d) e (m .served)
 
   least-met : (e : ℕ) → Searched (meets q) 1 3000 (At e) → Least (Meets q) e
-  least-met e f = record {
-    holds = record { from = f .0; to = omega (arith, f .1); served = meets-exactly q e .0 (f .2) };
-    least = λ m met. go m met (leb e m) refl;
-  }
-    where
-      go : (m : ℕ) → Meets q m → (b : Bool) → leb e m ≡ b → e ≤ m
-      go m met true t = leb-true _ _ t
-      go m met false t = absurd (passed m (f .3 m (met .from) (leb-false _ _ t)) met)
+  least-met e f =
+      found-least (meets q) 1 3000 (Meets q) (λ m met. meets-exactly q m .1 (met .served)) (λ m met. met .from) e f
+      (record { from = f .0; to = omega (arith, f .1); served = meets-exactly q e .0 (f .2) })
 
   by-search : (r : Search) → Searched (meets q) 1 3000 r → AsRead q (bySearch q r)
   unfolding figuresAt reasonOf

@@ -1,32 +1,22 @@
 -- The tests of the plain engine, by what they come to.
 use mathlib.Core.Path.{_≡_, sym, ap, _∙_}
 use mathlib.Core.Bool.{false}
-use Prim.Native.Nat.{ℕ, suc, _-_, _*_, _≤_, _<_}
+use Prim.Native.Nat.{ℕ, suc, _-_, _≤_, _<_}
 use native.Mathlib.Omega.{arith}
 use borrow.Author.Tests.{le-leb, lt-leb, lt-ltb, le-ltb}
-use Rattle.laws.specs.Rounding.{up}
 use Rattle.depth.specs.declared.Stretch.{Stretch}
 use Rattle.depth.specs.declared.Column.{Column}
 use Rattle.depth.specs.declared.DepthFault.{DepthFault}
 use Rattle.depth.specs.declared.DepthFault.the-variants.{NoSquatEntry, CutOver}
 use Rattle.depth.specs.Squat.{none}
-use Rattle.depth.specs.Depth.{naturalOf, columnOf, filling, z3, sailing, siltTo, z4}
+use Rattle.depth.specs.Depth.{naturalOf, columnOf, z3, z4}
 use Rattle.engine.specs.declared.Search.the-variants.{At}
 use Rattle.engine.specs.declared.Ruling.the-variants.{Fails, FallsIn}
 use Rattle.engine.specs.Plain.{deep, serves, byFigure, byRuling, firstFigure, rulingOf, reasonFrom}
 
 module _ (q : Stretch) (c : Column) where
-  -- the two ways to a z4
+  -- the three ways to whether a column serves a cut
   module _ (d : ℕ) where
-    pub no-silt : sailing q c ≤ naturalOf q → 0 ≡ z4 q c d
-    unfolding z4
-    no-silt h = simp (le-leb _ _ h)
-
-    pub some-silt : naturalOf q < sailing q c → up (filling q * (d - naturalOf q)) 100000 ≡ z4 q c d
-    unfolding z4 siltTo
-    some-silt h = simp (lt-leb _ _ h)
-
-    -- the three ways to whether a column serves a cut
     pub no-entry : none ≤ z3 q c → false ≡ serves q c d
     unfolding serves
     no-entry h = simp (le-leb _ _ h)

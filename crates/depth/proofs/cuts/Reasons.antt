@@ -115,7 +115,7 @@ module _ (q : Stretch) where
   abbrev Onward : Column → Type 0
   Onward c = (d : ℕ) → Serves q c d → columnNumber c ≤ columnNumber (ownColumn q d)
 
-  usable-serves : (c : Column) (d : ℕ) → Usable q c d → Serves q c d
+  pub usable-serves : (c : Column) (d : ℕ) → Usable q c d → Serves q c d
   usable-serves c d u = record { entry = u .entry; silt = u .silt; deep = u .figure .holds }
 
   -- so it is of each column that is come to: what serves it serves the one before, and is as deep as its figure

@@ -44,7 +44,7 @@ module _ (q : Stretch) (c : Column) where
   unfolding z4
   z4-none h d = simp (le-leb _ _ h)
 
-  z4-some : naturalOf q < sailing q c → (d : ℕ) → z4 q c d ≡ up (filling q * (d - naturalOf q)) 100000
+  pub z4-some : naturalOf q < sailing q c → (d : ℕ) → z4 q c d ≡ up (filling q * (d - naturalOf q)) 100000
   unfolding z4 siltTo
   z4-some h d = rw (lt-leb (sailing q c) (naturalOf q) h) refl
 
