@@ -1,4 +1,5 @@
 // A text whose blanks are filled with figures: `%` and one byte for the width, and the next figure stands there.
+#![tactic(auto)]
 ghost use Rattle.std.specs.Prelude.{◌≡◌, ◌+◌, ◌*◌, ◌≤◌, length};
 ghost use Rattle.laws.specs.Choice.{◌≤ᵇ◌};
 ghost use Rattle.lines.specs.Lines.{place_within, buffer_within, Put};
@@ -8,7 +9,7 @@ mod figures;
 mod putting;
 
 // A figure: a count, a signed number, a byte, the word of a number in the table lent, or none.
-#[derive(Drop)]
+#[derive(Clone, Copy)]
 pub enum Figure {
     Count(u64),
     Signed(i32),

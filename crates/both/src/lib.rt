@@ -1,4 +1,5 @@
 // The two engines beside each other: the answer of a sheet, and what the plain engine has for its depth (definition, section 16).
+#![tactic(auto)]
 ghost use Rattle.std.specs.Prelude.{◌≡◌};
 ghost use Rattle.both.specs.Both.{reason_came, came_to, uncounted, same_numbers, verdict_of, not_come, of_stretch, by_level, by_reading, both_of};
 
@@ -9,7 +10,7 @@ use gauge::LevelRead;
 use sheet::{Sheet, SheetRead};
 
 // What the two engines come to on a sheet: it is refused before its depth, or they agree, or they differ.
-#[derive(Drop)]
+#[derive(Clone, Copy)]
 pub enum Verdict {
     NotCome,
     Agreed,
@@ -17,7 +18,7 @@ pub enum Verdict {
 }
 
 // The answer of a sheet; beside it the plain engine's refusal, sailing depth and cut, all 0 where the sheet is refused before its depth.
-#[derive(Drop)]
+#[derive(Clone, Copy)]
 pub struct Both {
     pub answer: Answer,
     pub plain: [u64; PLAIN_COUNT],

@@ -7,7 +7,7 @@ ghost use Rattle.channel.specs.Input.{GotWithin, Filling};
 pub const TURNS: u64 = 18446744073709551615;
 
 // What one read gave: some bytes, the end, an interruption, or a failure.
-#[derive(Drop)]
+#[derive(Clone, Copy)]
 pub enum Got {
     Bytes(usize),
     End,
@@ -47,7 +47,7 @@ fn read_some(fd: i32, space: &mut [u8], have: usize) -> Got
 }
 
 // How much of a space was filled, and why no more: it is full, the input ended, or a read failed.
-#[derive(Drop)]
+#[derive(Clone, Copy)]
 pub struct Filled {
     pub count: usize,
     pub ended: bool,

@@ -1,5 +1,6 @@
 // The program: sheets in, a line a sheet out (definition, section 10); the words type, show and form (section 14); the worksheets (section 15); and the word both, by which
 // the plain engine's figures stand behind the worksheet's (section 16).
+#![tactic(auto)]
 ghost use Rattle.std.specs.Prelude.{◌≤◌, length};
 ghost use Rattle.lines.specs.Lines.{line_bytes};
 ghost use Rattle.channel.specs.Printing.{LinesPrinted, TextPrinted};
@@ -24,7 +25,7 @@ mod typing;
 mod worksheets;
 
 // The whole text, with so many bytes of it still in the buffer; or that it was cut short.
-#[derive(Drop)]
+#[derive(Clone, Copy)]
 enum Text {
     Whole(usize),
     Cut,

@@ -5,7 +5,7 @@ ghost use Rattle.channel.specs.Output.{place_for};
 use libc::STDOUT_FILENO;
 
 // Where the next line goes in the buffer, and whether the output still takes it.
-#[derive(Drop)]
+#[derive(Clone, Copy)]
 pub struct Out {
     pub at: usize,
     pub open: bool,

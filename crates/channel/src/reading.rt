@@ -13,14 +13,14 @@ use libc::{STDERR_FILENO, STDIN_FILENO};
 const LONGEST: usize = 4194304;
 
 // What is made of an input: the bytes of a typed text, or the worksheets of its sheets.
-#[derive(Drop)]
+#[derive(Clone, Copy)]
 pub enum Task {
     Type,
     Worksheets(Source),
 }
 
 // So many bytes were read; or the input was not read to its end or is longer, which is told.
-#[derive(Drop)]
+#[derive(Clone, Copy)]
 enum Whole {
     Bytes(usize),
     NotRead,

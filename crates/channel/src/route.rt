@@ -5,7 +5,7 @@ ghost use Rattle.channel.specs.Route.{no_sheets, with_sheet};
 use design::Answer;
 
 // The route so far.
-#[derive(Drop)]
+#[derive(Clone, Copy)]
 pub struct Route {
     pub sheets: u64,
     pub answered: u64,

@@ -17,7 +17,7 @@ pub const BLOCK: usize = 65520;
 const SHEET: usize = 28;
 
 // The lines so far, the route, and on how many of its sheets the two engines agreed.
-#[derive(Drop)]
+#[derive(Clone, Copy)]
 pub struct State {
     pub out: Out,
     pub route: Route,
@@ -86,7 +86,7 @@ pub fn printed_of(filled: Filled) -> usize
 }
 
 // A state, and what was filled.
-#[derive(Drop)]
+#[derive(Clone, Copy)]
 struct Turn {
     state: State,
     filled: Filled,
@@ -112,7 +112,7 @@ fn print_some(
 }
 
 // The state after the last sheet, and whether the input was read to its end and the output takes it.
-#[derive(Drop)]
+#[derive(Clone, Copy)]
 pub struct Sheets {
     pub state: State,
     pub whole: bool,

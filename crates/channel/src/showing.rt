@@ -10,7 +10,7 @@ use crate::{Text, input, output, sheets};
 use libc::STDIN_FILENO;
 
 // The texts so far, and the index of the last.
-#[derive(Drop)]
+#[derive(Clone, Copy)]
 struct State {
     out: Out,
     index: u64,
@@ -48,7 +48,7 @@ fn show_block(block: &[u8], buffer: &mut [u8], state: State) -> State
 }
 
 // A state, and what was filled.
-#[derive(Drop)]
+#[derive(Clone, Copy)]
 struct Turn {
     state: State,
     filled: Filled,
@@ -68,7 +68,7 @@ fn show_some(space: &mut [u8], buffer: &mut [u8], state: State) -> Turn
 }
 
 // The state after the last sheet, and whether the input was read to its end and the output takes it.
-#[derive(Drop)]
+#[derive(Clone, Copy)]
 struct Shown {
     state: State,
     whole: bool,

@@ -18,14 +18,14 @@ use record::Counts;
 use worksheet::{Greatest, Readings, Totals};
 
 // What is put of each sheet: its page, or then its line of the route.
-#[derive(Drop)]
+#[derive(Clone, Copy)]
 enum Pass {
     Pages,
     Stretches,
 }
 
 // The texts so far, the route, and its greatest figures.
-#[derive(Drop)]
+#[derive(Clone, Copy)]
 struct State {
     out: Out,
     route: Route,
@@ -215,7 +215,7 @@ fn put_foot(counts: Counts, buffer: &mut [u8], state: State) -> Out
 }
 
 // Where the sheets come from: bytes, or a typed text.
-#[derive(Drop)]
+#[derive(Clone, Copy)]
 pub enum Source {
     Bytes,
     Typed,

@@ -1,4 +1,5 @@
 // The classes of a ship, a width and a depth, 0 special to 4, and the route's (definition, section 7).
+#![tactic(auto)]
 ghost use Rattle.std.specs.Prelude.{◌≡◌, []};
 ghost use Rattle.class.specs.Classes.{class_by, ship_class, width_class, depth_class, classes_of, limits_by, ship_limits, width_limits, depth_limits, with_ship, route_class};
 
@@ -6,7 +7,7 @@ use datum::BelowLevel;
 use lanes::Lanes;
 
 // The three classes of a stretch.
-#[derive(Drop)]
+#[derive(Clone, Copy)]
 pub struct Classes {
     pub ship: u8,
     pub width: u8,
@@ -14,7 +15,7 @@ pub struct Classes {
 }
 
 // The limits around a figure: that of its class, which it has passed, and that of the next better class; 0 for none.
-#[derive(Drop)]
+#[derive(Clone, Copy)]
 pub struct Limits {
     pub passed: u32,
     pub next: u32,

@@ -1,25 +1,26 @@
 // Neighbours of one unit, as types of their own: depths below two datums, with the level that alone leads from one to the other (definition,
 // section 4.1), and the two currents.
+#![tactic(auto)]
 ghost use Rattle.std.specs.Prelude.{◌≡◌};
 ghost use Rattle.datum.specs.Datum.{natural_depth, datum_depth};
 
 // A level above chart datum, in cm plus 500: the record's levels from -500 on, with no sign.
-#[derive(Drop)]
+#[derive(Clone, Copy)]
 pub struct Level(pub u16);
 
 // A depth below the design level, in cm.
-#[derive(Drop)]
+#[derive(Clone, Copy)]
 pub struct BelowLevel(pub u16);
 
 // A depth below chart datum, in cm; negative above it.
-#[derive(Drop)]
+#[derive(Clone, Copy)]
 pub struct BelowChart(pub i32);
 
 // Cross current and along current, in tenths of a knot: two types, so that neither stands in the other's column.
-#[derive(Drop)]
+#[derive(Clone, Copy)]
 pub struct CrossCurrent(pub u8);
 
-#[derive(Drop)]
+#[derive(Clone, Copy)]
 pub struct AlongCurrent(pub u8);
 
 // The deepest that a depth below the design level is held as: no cut is as deep.

@@ -1,4 +1,5 @@
 // Depth below the design level: the worksheet, and the cut it ends in (definition, section 4).
+#![tactic(auto)]
 ghost use Rattle.std.specs.Prelude.{◌≡◌, ◌+◌, ◌-◌, ◌*◌, ◌^◌, ◌≤◌, ◌<◌, get_or};
 ghost use Rattle.laws.specs.Rounding.{up};
 ghost use Rattle.datum.specs.Datum.{dug};
@@ -12,7 +13,7 @@ use lanes::Lanes;
 
 // What the depth of a stretch is worked from: cm, but for the soil grade, the silting in per mille a year,
 // the dredging interval in hundredths of a year and the speed in knots.
-#[derive(Drop)]
+#[derive(Clone, Copy)]
 pub struct Stretch {
     pub draft: u16,
     pub length: u16,
@@ -26,7 +27,7 @@ pub struct Stretch {
 }
 
 // The squat table's columns, by how much of the cut is dug.
-#[derive(Drop)]
+#[derive(Clone, Copy)]
 pub enum Column {
     A,
     B,
@@ -34,13 +35,13 @@ pub enum Column {
 }
 
 // A depth below the design level as the worksheet reckons it, in cm: wide, since its limit is tested afterwards.
-#[derive(Drop)]
+#[derive(Clone, Copy)]
 pub struct ReckonedDepth(pub u64);
 
 // A line of the worksheet, in cm: a column, its squat z3 (NONE for no entry, and then the rest means nothing), sailing depth s,
 // silt z4 (ENDLESS for no figure, and then the rest means nothing), figure s + z4, which is the least cut that holds its own
 // silt, and the column that the figure falls in.
-#[derive(Drop)]
+#[derive(Clone, Copy)]
 pub struct Try {
     pub column: Column,
     pub squat: u16,
@@ -52,7 +53,7 @@ pub struct Try {
 
 // Why the worksheet cannot use a column: no entry in the squat table, silt over 120 or endless, a cut over 3,000, tested in this
 // order.
-#[derive(Drop)]
+#[derive(Clone, Copy)]
 pub enum DepthFault {
     NoSquatEntry,
     SiltOver,
@@ -60,7 +61,7 @@ pub enum DepthFault {
 }
 
 // What a try comes to: the worksheet stays in its column, or moves to the one its figure falls in, or cannot use the column.
-#[derive(Drop)]
+#[derive(Clone, Copy)]
 pub enum Finding {
     Stays,
     Moves,
@@ -68,14 +69,14 @@ pub enum Finding {
 }
 
 // The worksheet: its tries in order, `count` of them, then blank ones.
-#[derive(Drop)]
+#[derive(Clone, Copy)]
 pub struct Worksheet {
     pub tries: [Try; 3],
     pub count: u8,
 }
 
 // The cut, its sailing depth, and how many columns were tried.
-#[derive(Drop)]
+#[derive(Clone, Copy)]
 pub struct DepthFigures {
     pub cut: BelowLevel,
     pub sailing: BelowLevel,
@@ -83,14 +84,14 @@ pub struct DepthFigures {
 }
 
 // The depth of a stretch, or why the first column that its worksheet cannot use gives none.
-#[derive(Drop)]
+#[derive(Clone, Copy)]
 pub enum Depth {
     Cut(DepthFigures),
     NoCut(DepthFault),
 }
 
 // What the ship's list and trim, the clearance under the keel and the waves add to the draft, in cm: z0, z1 and z2.
-#[derive(Drop)]
+#[derive(Clone, Copy)]
 pub struct Allowances {
     pub list: u64,
     pub keel: u64,

@@ -1,4 +1,5 @@
 // A design: from any bytes and a level table to its figures, or the reason why there are none (definition, section 8).
+#![tactic(auto)]
 ghost use Rattle.std.specs.Prelude.{◌≡◌};
 ghost use Rattle.design.specs.Design.{design_at, design_of};
 ghost use Rattle.design.specs.Numbers.{code_of, numbers_of};
@@ -18,7 +19,7 @@ mod numbering;
 pub mod working;
 
 // Why a sheet is turned away: the refusal of the room that turns it away, or the design's own.
-#[derive(Drop)]
+#[derive(Clone, Copy)]
 pub enum Reason {
     NoSheet(ReadFault),
     // its length is under three beams
@@ -30,7 +31,7 @@ pub enum Reason {
 }
 
 // The figures of a sheet that is answered, in cm.
-#[derive(Drop)]
+#[derive(Clone, Copy)]
 pub struct Figures {
     pub level: Level,
     pub lanes: Lanes,
@@ -46,7 +47,7 @@ pub struct Figures {
     pub classes: Classes,
 }
 
-#[derive(Drop)]
+#[derive(Clone, Copy)]
 pub enum Answer {
     Answered(Figures),
     Refused(Reason),

@@ -1,5 +1,6 @@
 // The plain engine: the definition of the depth read straight (definition, sections 4.2 to 4.7). It tries each cut from 1 to 3,000 and takes the first that
 // meets the definition; where none does, it asks the columns why.
+#![tactic(auto)]
 ghost use Rattle.std.specs.Prelude.{◌≡◌, true, ◌^◌, ◌<◌};
 ghost use Rattle.datum.specs.Datum.{dug};
 ghost use Rattle.depth.specs.Depth.{column_of, z3, sailing, z4};
@@ -11,28 +12,28 @@ use datum::BelowLevel;
 use depth::{Column, DepthFault, Stretch};
 
 // A cut and the sailing depth of its column.
-#[derive(Drop)]
+#[derive(Clone, Copy)]
 pub struct PlainFigures {
     pub cut: BelowLevel,
     pub sailing: BelowLevel,
 }
 
 // The first cut that meets the definition, or why none does.
-#[derive(Drop)]
+#[derive(Clone, Copy)]
 pub enum PlainDepth {
     Met(PlainFigures),
     Unmet(DepthFault),
 }
 
 // The first depth that passed a test, in cm, or that none did.
-#[derive(Drop)]
+#[derive(Clone, Copy)]
 enum Search {
     At(u64),
     Nowhere,
 }
 
 // What the rules of a column come to: it fails by a test, or its figure falls in a column.
-#[derive(Drop)]
+#[derive(Clone, Copy)]
 enum Ruling {
     Fails(DepthFault),
     FallsIn(Column),

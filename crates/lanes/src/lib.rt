@@ -1,15 +1,16 @@
 // Lanes: one or two, as the sheet names them or by the traffic (definition, section 3).
+#![tactic(auto)]
 ghost use Rattle.std.specs.Prelude.{◌≡◌};
 ghost use Rattle.lanes.specs.Lanes.{lane_count, lanes_of, by_traffic, sides_of};
 
-#[derive(Drop)]
+#[derive(Clone, Copy)]
 pub enum Lanes {
     One,
     Two,
 }
 
 // The two sides of the rule by the traffic.
-#[derive(Drop)]
+#[derive(Clone, Copy)]
 pub struct Sides {
     pub traffic: u64,
     pub limit: u64,

@@ -9,6 +9,7 @@ module _ {A : Type 0} (P : A → Type 0) where
   each_append (x ∷ first) second p q = (p.0, each_append first second p.1 q)
 
   pub each_member : (a : A) (xs : List A) → Each P xs → Memᴰ a xs → P a
+  each_member a [] p m = elim m [ ]
   each_member a (x ∷ xs) p (Memᴰ.head e) = subst P (sym e) p.0
   each_member a (x ∷ xs) p (Memᴰ.tail m) = each_member a xs p.1 m
 

@@ -1,1 +1,2 @@
 // No code: the definitions and laws that several rooms share, in specs/ and proofs/.
+#![tactic(auto)]

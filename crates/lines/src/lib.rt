@@ -1,4 +1,5 @@
 // The lines of the printing program: their text in decimal, put into a lent buffer.
+#![tactic(auto)]
 ghost use Rattle.std.specs.Prelude.{◌≡◌, [], ◌∷◌, map, ◌+◌, ◌-◌, ◌*◌, ◌≤◌, ◌<◌, nat_abs, length, take, drop};
 ghost use Rattle.laws.specs.Choice.{◌≤ᵇ◌};
 ghost use Rattle.engine.specs.Numbers.{plain_count};
@@ -31,7 +32,7 @@ const LETTER_L: u8 = 76;
 const LETTER_R: u8 = 82;
 
 // The worksheet's figures alone, or the plain engine's behind them.
-#[derive(Drop)]
+#[derive(Clone, Copy)]
 pub enum Form {
     Alone,
     Both,

@@ -7,7 +7,7 @@ ghost use Rattle.sheet.specs.Regrouping.{word_at, filled_of, SplitTo};
 use crate::{COUNT, fields};
 
 // Bits that are taken in and not given out yet: the low n bits of bits.
-#[derive(Drop)]
+#[derive(Clone, Copy)]
 struct Held {
     bits: u64,
     n: u32,
@@ -66,7 +66,7 @@ fn word(bytes: &[u8], k: usize) -> u64
 }
 
 // Between two groups: the bits held, and how many words are taken in.
-#[derive(Drop)]
+#[derive(Clone, Copy)]
 struct Between {
     held: Held,
     words: usize,
@@ -122,7 +122,7 @@ fn split_on(
 }
 
 // The figures of the fields, and the spare bits behind them.
-#[derive(Drop)]
+#[derive(Clone, Copy)]
 pub struct Parts {
     pub figures: [u32; COUNT],
     pub spare: u32,

@@ -5,7 +5,7 @@ ghost use Rattle.sheet.specs.Fields.{count, groups, field_at, width, outside_at,
 use crate::COUNT;
 
 // A field: its bits, its least and its greatest value.
-#[derive(Drop)]
+#[derive(Clone, Copy)]
 pub struct Field(pub u32, pub u32, pub u32);
 
 // How many groups of bits there are, the spare bits with them.

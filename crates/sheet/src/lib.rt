@@ -1,4 +1,5 @@
 // The sheet: 28 bytes, 29 fields packed most significant bit first (definition, section 1).
+#![tactic(auto)]
 ghost use Rattle.std.specs.Prelude.{◌≡◌};
 ghost use Rattle.sheet.specs.Fields.{range_of, standing_of};
 ghost use Rattle.sheet.specs.Refusals.{read_fault_number, read_fault_field, write_fault_number, write_fault_field};
@@ -14,14 +15,14 @@ mod figures;
 pub const COUNT: usize = 29;
 
 // Where the design level comes from: off the record, or given with its figure.
-#[derive(Drop)]
+#[derive(Clone, Copy)]
 pub enum LevelSource {
     FromRecord,
     Given(Level),
 }
 
 // The fields of a sheet, in the order of their numbers.
-#[derive(Drop)]
+#[derive(Clone, Copy)]
 pub struct Sheet {
     // 1, t
     pub deadweight: u32,
@@ -78,7 +79,7 @@ pub struct Sheet {
 }
 
 // Why a string of bytes is no sheet.
-#[derive(Drop)]
+#[derive(Clone, Copy)]
 pub enum ReadFault {
     WrongLength,
     SpareBitSet,
@@ -87,14 +88,14 @@ pub enum ReadFault {
 }
 
 // What a string of bytes is read as.
-#[derive(Drop)]
+#[derive(Clone, Copy)]
 pub enum SheetRead {
     Good(Sheet),
     NoSheet(ReadFault),
 }
 
 // Why a sheet is not written.
-#[derive(Drop)]
+#[derive(Clone, Copy)]
 pub enum WriteFault {
     PlaceTooSmall,
     // by its number
@@ -102,7 +103,7 @@ pub enum WriteFault {
 }
 
 // What writing a sheet answers.
-#[derive(Drop)]
+#[derive(Clone, Copy)]
 pub enum SheetWritten {
     Done,
     NotWritten(WriteFault),
@@ -151,14 +152,14 @@ pub fn write_fault_field(fault: WriteFault) -> u8
 }
 
 // A field's least and greatest value.
-#[derive(Drop)]
+#[derive(Clone, Copy)]
 pub struct Range {
     pub least: u32,
     pub greatest: u32,
 }
 
 // How a figure stands in its field: as it should, outside its values, or against another field.
-#[derive(Drop)]
+#[derive(Clone, Copy)]
 pub enum Standing {
     Fine,
     Outside,

@@ -1,4 +1,5 @@
 // The critical speed of a stretch, and whether its ship keeps to nine tenths of it (definition, section 13).
+#![tactic(auto)]
 ghost use Rattle.std.specs.Prelude.{◌≡◌, ◌-◌, ◌^◌, ◌≤◌, ◌<◌};
 ghost use Rattle.datum.specs.Datum.{dug};
 ghost use Rattle.speed.specs.Lines.{parts_of};
@@ -13,7 +14,7 @@ mod table;
 
 // What the critical speed of a stretch is worked from: its natural depth and its cut, its bottom width in cm, which is the width without
 // widening, and the m of its side slopes 1/m.
-#[derive(Drop)]
+#[derive(Clone, Copy)]
 pub struct Section {
     pub natural: BelowLevel,
     pub cut: BelowLevel,
@@ -22,21 +23,21 @@ pub struct Section {
 }
 
 // A speed as so many parts of a whole, in tenths of a metre a second; or that a point of the table that it needs is blank or outside.
-#[derive(Drop)]
+#[derive(Clone, Copy)]
 pub enum Speed {
     Parts(u64),
     Missing,
 }
 
 // Why a speed is not allowed: a needed point of the table is blank or outside, or the ship is too fast.
-#[derive(Drop)]
+#[derive(Clone, Copy)]
 pub enum SpeedFault {
     PointMissing,
     TooFast,
 }
 
 // What the check of a speed comes to.
-#[derive(Drop)]
+#[derive(Clone, Copy)]
 pub enum SpeedCheck {
     Allowed,
     NotAllowed(SpeedFault),
@@ -44,7 +45,7 @@ pub enum SpeedCheck {
 
 // What a critical speed is joined from, as a sheet shows it: h in cm, V', V'' and the joined speed in whole mm a second, and the fastest
 // that a ship may go, nine tenths of the joined speed, in hundredths of a knot; all rounded down.
-#[derive(Drop)]
+#[derive(Clone, Copy)]
 pub struct SpeedParts {
     pub dug: u16,
     pub shallow: Speed,

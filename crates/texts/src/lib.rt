@@ -1,4 +1,5 @@
 // Typed texts: the sheets and the faults of a text, bytes shown as text, and the empty form (definition, section 14).
+#![tactic(auto)]
 ghost use Rattle.std.specs.Prelude.{◌≡◌, map, ◌≤◌, length};
 ghost use Rattle.lines.specs.Lines.{place_within, buffer_within};
 ghost use Rattle.texts.specs.Steps.{fault_number};
@@ -22,7 +23,7 @@ pub const SHOWN_BYTES: usize = 4096;
 const FRONT_BYTES: usize = 6;
 
 // Where a reader stands in a sheet: in none, before the row after the first so many, or behind a fault.
-#[derive(Drop)]
+#[derive(Clone, Copy)]
 pub enum Stage {
     Between,
     InRow(usize),
@@ -30,7 +31,7 @@ pub enum Stage {
 }
 
 // Why a line is turned away.
-#[derive(Drop)]
+#[derive(Clone, Copy)]
 pub enum LineFault {
     NoSheet,
     Missing,
@@ -44,7 +45,7 @@ pub enum LineFault {
 }
 
 // What a line brings: nothing, the last row of a sheet, or a fault in the place of a row.
-#[derive(Drop)]
+#[derive(Clone, Copy)]
 pub enum Event {
     Nothing,
     Sheet,
@@ -52,7 +53,7 @@ pub enum Event {
 }
 
 // How far a text is read: the place, the lines before it, the stage, and the figures of the sheet.
-#[derive(Drop)]
+#[derive(Clone, Copy)]
 pub struct Cursor {
     pub at: usize,
     pub lines: u32,
@@ -61,14 +62,14 @@ pub struct Cursor {
 }
 
 // A part of a text: its first byte and the place after its last.
-#[derive(Drop)]
+#[derive(Clone, Copy)]
 pub struct Span {
     pub start: usize,
     pub end: usize,
 }
 
 // Where something was found: the line's number, its first byte and the place after its last; or that the text ends.
-#[derive(Drop)]
+#[derive(Clone, Copy)]
 pub struct Place {
     pub line: u32,
     pub start: usize,
@@ -77,7 +78,7 @@ pub struct Place {
 }
 
 // The next thing that is found in a text; nothing where it ends.
-#[derive(Drop)]
+#[derive(Clone, Copy)]
 pub struct Found {
     pub event: Event,
     pub place: Place,

@@ -9,7 +9,7 @@ use sheet::Standing;
 use typed::Entry;
 
 // What a line brings, and the stage and the figures then.
-#[derive(Drop)]
+#[derive(Clone, Copy)]
 pub struct Step {
     pub stage: Stage,
     pub figures: [u32; sheet::COUNT],

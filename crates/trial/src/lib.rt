@@ -1,4 +1,5 @@
 // The handles by which the tests call the rooms: numbers and slices, for a program in another language.
+#![tactic(auto)]
 mod depths;
 mod designs;
 mod gauges;

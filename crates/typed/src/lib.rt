@@ -1,4 +1,5 @@
 // The typed sheet, line by line: a row for each field, its name, its figure and its unit (definition, section 14.2).
+#![tactic(auto)]
 ghost use Rattle.std.specs.Prelude.{◌≡◌};
 ghost use Rattle.lines.specs.Lines.{place_within, buffer_within};
 ghost use Rattle.typed.specs.Lines.{line_bytes, line_text, blank_text, expected_bytes, expected_text};
@@ -20,7 +21,7 @@ pub const LINE_BYTES: usize = 80;
 pub const EXPECTED_BYTES: usize = 512;
 
 // How a row's figure is typed.
-#[derive(Drop)]
+#[derive(Clone, Copy)]
 pub enum Kind {
     Whole,
     Tenths,
@@ -30,7 +31,7 @@ pub enum Kind {
 }
 
 // What a line says in the place of a row: its figure, or why it has none.
-#[derive(Drop)]
+#[derive(Clone, Copy)]
 pub enum Entry {
     Figure(u32),
     NoName,

@@ -6,7 +6,7 @@ use crate::{COUNT, Kind, LEVEL};
 use sheet::Range;
 
 // A name, how the figure is typed, the unit, and the words of its codes, 16 bytes each. What is shorter ends in spaces.
-#[derive(Drop)]
+#[derive(Clone, Copy)]
 pub struct Row(pub [u8; 16], pub Kind, pub [u8; 16], pub [u8; 96]);
 
 const NONE: [u8; 16] = *b"                ";

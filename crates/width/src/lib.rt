@@ -1,4 +1,5 @@
 // The width of a stretch, in tenths of the beam, and its bends (definition, sections 5 and 6).
+#![tactic(auto)]
 ghost use Rattle.std.specs.Prelude.{◌≡◌, ◌<◌, ◌^◌};
 ghost use Rattle.width.specs.Bands.{water_of, speed_band_of, entries_of};
 ghost use Rattle.width.specs.Bends.{least_radius, bend_of, widening_figure};
@@ -13,28 +14,28 @@ mod bands;
 mod bends;
 
 // Open or sheltered water: field 14.
-#[derive(Drop)]
+#[derive(Clone, Copy)]
 pub enum Water {
     Open,
     Sheltered,
 }
 
 // From 8 knots on a ship is at moderate speed, under 8 slow.
-#[derive(Drop)]
+#[derive(Clone, Copy)]
 pub enum SpeedBand {
     Moderate,
     Slow,
 }
 
 // An entry of a table of bands: tenths of the beam, or none.
-#[derive(Drop)]
+#[derive(Clone, Copy)]
 pub enum Entry {
     Tenths(u8),
     Blank,
 }
 
 // What the tables of bands give before the depth is known: the water, the speed band, and the tenths of cross current and wave.
-#[derive(Drop)]
+#[derive(Clone, Copy)]
 pub struct Entries {
     pub water: Water,
     pub band: SpeedBand,
@@ -43,14 +44,14 @@ pub struct Entries {
 }
 
 // The entries of a stretch, or that its cross current or wave has none.
-#[derive(Drop)]
+#[derive(Clone, Copy)]
 pub enum EntriesFound {
     Entered(Entries),
     NoEntry,
 }
 
 // What else the width of a stretch is worked from: the sheet's fields under the sheet's names, its lanes and its sailing depth s.
-#[derive(Drop)]
+#[derive(Clone, Copy)]
 pub struct Stretch {
     pub beam: u16,
     pub draft: u16,
@@ -68,7 +69,7 @@ pub struct Stretch {
 }
 
 // The items of a width, in tenths of the beam, each one row of the annex; passing and traffic count in two lanes only.
-#[derive(Drop)]
+#[derive(Clone, Copy)]
 pub struct Items {
     pub lane: u8,
     pub wind: u8,
@@ -85,14 +86,14 @@ pub struct Items {
 }
 
 // What a bend asks for: a widening in cm, 0 for a straight and a wide bend, or a greater radius.
-#[derive(Drop)]
+#[derive(Clone, Copy)]
 pub enum Bend {
     Widening(u32),
     TooTight,
 }
 
 // Why a stretch has no width: its bend is too tight, or its cross current or wave has no entry.
-#[derive(Drop)]
+#[derive(Clone, Copy)]
 pub enum WidthFault {
     BendTooTight,
     NoWidthEntry,

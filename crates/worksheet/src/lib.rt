@@ -1,4 +1,5 @@
 // The worksheet that is signed: a page a sheet, and the pages of the route (definition, section 15).
+#![tactic(auto)]
 ghost use Rattle.std.specs.Prelude.{◌≡◌};
 ghost use Rattle.lines.specs.Lines.{place_within, buffer_within};
 ghost use Rattle.worksheet.specs.Framing.{page_bytes};
@@ -28,14 +29,14 @@ mod words;
 pub const PAGE_BYTES: usize = 24576;
 
 // The greatest cut and width of the stretches that are answered so far.
-#[derive(Drop)]
+#[derive(Clone, Copy)]
 pub struct Greatest {
     pub cut: u16,
     pub width: u32,
 }
 
 // The sheets of a route, those answered, and its class.
-#[derive(Drop)]
+#[derive(Clone, Copy)]
 pub struct Totals {
     pub sheets: u64,
     pub answered: u64,
@@ -43,7 +44,7 @@ pub struct Totals {
 }
 
 // The readings of the record: added, missing and refused.
-#[derive(Drop)]
+#[derive(Clone, Copy)]
 pub struct Readings {
     pub added: u64,
     pub missing: u64,
