@@ -1,0 +1,13 @@
+-- `speed::over_of` meets its contract: by the divisor, and then the speed's case.
+use borrow.Author.Rules.{rules}
+use Rattle.speed.proofs.Showing.{over_none, over_some}
+use Rattle.speed.proofs.over_of.Goals as goal
+
+pub returns-then-divisor-eq0 : goal.returns-then-divisor-eq0
+returns-then-divisor-eq0 c = over_none _ _ c.if-divisor-eq0.true
+
+pub returns-in-Parts : goal.returns-in-Parts
+returns-in-Parts c = rw c.in-Parts.is (over_some _ _ c.if-divisor-eq0.false)
+
+pub returns-in-Missing : goal.returns-in-Missing
+returns-in-Missing c = rw c.in-Missing.is (over_some _ _ c.if-divisor-eq0.false)
