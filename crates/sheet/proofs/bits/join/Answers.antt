@@ -21,18 +21,18 @@ record Rest (place₀ place : List ℕ) : Type 0 where
   same : length place ≡ length place₀
   tail : drop 28 place ≡ drop 28 place₀
 
-put_requires : tie.Need-put-requires invariant_loop2 decreases_loop2 invariant_loop decreases_loop
+pub put-held-requires : goal.put-held-requires
 unfolding Narrow
-put_requires c κs =
+put-held-requires c =
     let o = c.before.before.before in (
       o.loop-i.invariant.0.tail.low,
       rw (c.width_of_lem.ensures, c.group_at.ensures) (o.requires.0 o.loop-i.i (omega arith)),
       omega (arith, width_le o.loop-i.i (omega arith)),
     )
 
-loop2_holds : tie.Need-loop2-init invariant_loop2 decreases_loop2 invariant_loop decreases_loop
+pub loop-held-init : goal.loop-held-init
 unfolding Narrow
-loop2_holds c =
+loop-held-init c =
     let o = c.before.before.before.before in (
       rw (c.put-held.ensures.0, c.put-held.ensures.1, c.width_of_lem.ensures, c.group_at.ensures)
           (mid_in width _ eight _ o.loop-i.i o.loop-i.at _ _ o.loop-i.invariant.0 (o.requires.0 o.loop-i.i (omega arith))),
@@ -47,13 +47,13 @@ in_sheet c =
     let i = d.loop-i.i in
     omega (arith, starts_eight d.loop-held.at, starts_le width (i + 1) groups (omega arith), starts_width)
 
-cast_place : tie.Need-overflow-cast-place invariant_loop2 decreases_loop2 invariant_loop decreases_loop
-cast_place c =
+pub overflow_cast-place : goal.overflow_cast-place
+overflow_cast-place c =
     let d = c.before.before.before in
     record { fits = rw c.first.ensures (first_lt d.loop-held.held.bits d.loop-held.held.n 8 d.loop-held.invariant.0.tail.low (omega arith)) }
 
-loop2_again : tie.Need-loop2-preserved invariant_loop2 decreases_loop2 invariant_loop decreases_loop
-loop2_again c =
+pub loop-held-preserved : goal.loop-held-preserved
+loop-held-preserved c =
     let d = c.before.before.before.before in
     let o = d.before.before.before.before.before in
     let i = o.loop-i.i in
@@ -65,8 +65,8 @@ loop2_again c =
       record { same = rw length-set d.loop-held.invariant.2.same; tail = rw drop-set-lt d.loop-held.invariant.2.tail },
     )
 
-loop_again : tie.Need-loop-preserved invariant_loop2 decreases_loop2 invariant_loop decreases_loop
-loop_again c =
+pub loop-i-preserved : goal.loop-i-preserved
+loop-i-preserved c =
     let d = c.before.before in
     let o = d.before.before.before.before.before in (
       d.loop-held.invariant.0,
@@ -76,7 +76,7 @@ loop_again c =
           { same = d.loop-held.invariant.2.same ∙ o.loop-i.invariant.3.same; tail = d.loop-held.invariant.2.tail ∙ o.loop-i.invariant.3.tail },
     )
 
-returns : tie.Need-returns invariant_loop2 decreases_loop2 invariant_loop decreases_loop
+pub returns : goal.returns
 unfolding bytes_of
 returns c =
     let o = c.before in

@@ -16,15 +16,14 @@ use Rattle.sheet.proofs.bits.Steps.{first_lt}
 use Rattle.sheet.proofs.bits.Groups.{starts_le}
 use Rattle.sheet.proofs.bits.join.Given as goal
 
-abbrev invariant_loop2 : tie.invariant-loop2
-invariant_loop2 given place₀ held₀ at₀ i wide place held at = Mid width (nth given) eight (nth place) (i + 1) at held.bits held.n × (held.n < 28) × Rest place₀ place
+abbrev pub invariant-loop-held : goal.invariant-loop-held
+invariant-loop-held l = Mid width (nth l.figures) eight (nth l.place) (l.i + 1) l.at l.held.bits l.held.n × (l.held.n < 28) × Rest l.initial.place l.place
 
-abbrev decreases_loop2 : tie.decreases-loop2
-decreases_loop2 given place₀ held₀ at₀ i wide place held at = held.n
+abbrev pub decreases-loop-held : goal.decreases-loop-held
+decreases-loop-held l = l.held.n
 
-abbrev invariant_loop : tie.invariant-loop
-invariant_loop given place₀ held₀ at₀ i₀ place held at i = Mid width (nth given) eight (nth place) i at held.bits held.n × (held.n < 8) × (i ≤ groups) × Rest place₀ place
+abbrev pub invariant-loop-i : goal.invariant-loop-i
+invariant-loop-i l = Mid width (nth l.figures) eight (nth l.place) l.i l.at l.held.bits l.held.n × (l.held.n < 8) × (l.i ≤ groups) × Rest l.initial.place l.place
 
-abbrev decreases_loop : tie.decreases-loop
-decreases_loop given place₀ held₀ at₀ i₀ place held at i = groups - i
--- LOOPS [[["loop2", "loop-held"], ["figures", "place", "held", "at", "i", "width"]], [["loop", "loop-i"], ["figures", "place", "held", "at", "i"]]]
+abbrev pub decreases-loop-i : goal.decreases-loop-i
+decreases-loop-i l = groups - l.i

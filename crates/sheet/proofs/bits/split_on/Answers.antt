@@ -25,8 +25,8 @@ full c =
     full_is _ _ l.figures l.between c.filled-full.result l.i c.width_of_lem.result (omega (arith, width_le l.i (omega arith)))
     l.invariant.0 c.filled-full.ensures
 
-filled_requires : tie.Need-filled-requires invariant_loop decreases_loop
-filled_requires c κs =
+pub filled-full-requires : goal.filled-full-requires
+filled-full-requires c =
     let l = c.before.before in
     let s = l.before.before in (
       s.requires.0,
@@ -37,14 +37,14 @@ filled_requires c κs =
       ),
     )
 
-cast_figures : tie.Need-overflow-cast-figures invariant_loop decreases_loop
-cast_figures c =
+pub overflow_cast-figures : goal.overflow_cast-figures
+overflow_cast-figures c =
     let f = full c.before.before in
     let held = c.filled-full.result.held in
     record { fits = omega (arith, first_fits held.bits held.n _ c.first.result f.mid.tail.low f.enough f.narrow c.first.ensures) }
 
-loop_again : tie.Need-loop-preserved invariant_loop decreases_loop
-loop_again c =
+pub loop-i-preserved : goal.loop-i-preserved
+loop-i-preserved c =
     let a = c.before.before.before in
     let l = a.before.before.before in (
       split_one _ _ l.loop-i.figures a.filled-full.result l.loop-i.i a.width_of_lem.result c.first.result c.rest-rest.result
@@ -52,7 +52,7 @@ loop_again c =
       omega arith,
     )
 
-returns : tie.Need-returns invariant_loop decreases_loop
+pub returns : goal.returns
 returns c =
     let l = c.before in
     let e : l.loop-i.i ≡ l.args.to = omega arith in

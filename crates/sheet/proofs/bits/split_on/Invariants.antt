@@ -10,10 +10,8 @@ use Rattle.sheet.proofs.bits.Steps.{first_fits}
 use Rattle.sheet.proofs.bits.Widths.{width_le}
 use Rattle.sheet.proofs.bits.split_on.Given as goal
 
--- `sheet::bits::split_on` meets its contract: between two steps the number of the bytes read is that of the groups given out, followed by the held bits.
-abbrev invariant_loop : tie.invariant-loop
-invariant_loop bytes figures₀ from to between₀ i₀ figures between i = SplitTo bytes figures between i × (i ≤ to)
+abbrev pub invariant-loop-i : goal.invariant-loop-i
+invariant-loop-i l = SplitTo l.bytes l.figures l.between l.i × (l.i ≤ l.to)
 
-abbrev decreases_loop : tie.decreases-loop
-decreases_loop bytes figures₀ from to between₀ i₀ figures between i = to - i
--- LOOPS [[["loop", "loop-i"], ["bytes", "figures", "from", "to", "between", "i"]]]
+abbrev pub decreases-loop-i : goal.decreases-loop-i
+decreases-loop-i l = l.to - l.i

@@ -1,0 +1,6 @@
+-- `class::classes_of` meets its contract: each class is its own call's.
+use borrow.Author.Rules.{rules}
+use Rattle.class.proofs.classes_of.Goals as goal
+
+pub returns : goal.returns
+returns c = rw (c.ship_class_is.ensures, c.width_class_is.ensures, c.depth_class_is.ensures)

@@ -1,0 +1,8 @@
+-- `depth::allowances_of` meets its contract: the three are the definition's.
+use borrow.Author.Rules.{rules}
+use Rattle.depth.specs.Depth.{allowances_of}
+use Rattle.depth.proofs.allowances_of.Goals as goal
+
+pub returns : goal.returns
+unfolding allowances_of
+returns c = rw (c.z0-list.ensures, c.z1-keel.ensures.0)

@@ -1,0 +1,30 @@
+-- `sheet::fields::first_outside` meets its contract: the search from where the loop stands answers for the whole run.
+use mathlib.Core.Path.{◌≡◌, refl, sym, ◌∙◌}
+use Prim.Native.Nat.{◌-◌}
+use native.Mathlib.Omega.{arith}
+use borrow.Author.Rules.{rules}
+use Rattle.laws.proofs.First.{first_end, first_here, first_on}
+use Rattle.sheet.specs.Fields.{outside_at, first_outside}
+use Rattle.sheet.proofs.fields.first_outside.Goals as goal
+
+pub returns-then-outside : goal.returns-then-outside
+unfolding first_outside
+returns-then-outside c =
+    let l = c.before.before.before in
+    first_here (outside_at _) l.loop-i.i l.args.to (omega arith) (sym c.outside.ensures ∙ c.if-outside.true)
+    ∙ l.loop-i.invariant
+
+pub loop-i-preserved : goal.loop-i-preserved
+unfolding first_outside
+loop-i-preserved c =
+    let l = c.before.before.before in
+    sym (first_on (outside_at _) l.loop-i.i l.args.to (omega arith) (sym c.outside.ensures ∙ c.if-outside.false))
+    ∙ l.loop-i.invariant
+
+pub loop-i-init : goal.loop-i-init
+unfolding first_outside
+loop-i-init c = refl
+
+pub returns : goal.returns
+unfolding first_outside
+returns c = first_end (outside_at _) c.loop-i.i c.args.to (omega arith) ∙ c.loop-i.invariant
