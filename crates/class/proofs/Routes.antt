@@ -32,6 +32,7 @@ fold_to_start b [] = le_refl b
 fold_to_start b (x ∷ ships) = le_trans (fold_to_start (with_ship b x) ships) (with_ship_lem b x).to_route
 
 fold_to_each : (b : ℕ) (ships : List ℕ) (k : ℕ) → Memᴰ k ships → foldl with_ship b ships ≤ k
+fold_to_each b [] k m = elim m [ ]
 fold_to_each b (x ∷ ships) k (Memᴰ.head e) = omega (arith, fold_to_start (with_ship b x) ships, (with_ship_lem b x).to_ship)
 fold_to_each b (x ∷ ships) k (Memᴰ.tail m) = fold_to_each (with_ship b x) ships k m
 

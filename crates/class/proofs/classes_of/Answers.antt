@@ -3,4 +3,4 @@ use borrow.Author.Rules.{rules}
 use Rattle.class.proofs.classes_of.Goals as goal
 
 pub returns : goal.returns
-returns c = rw (c.ship_class_is.ensures, c.width_class_is.ensures, c.depth_class_is.ensures)
+returns c = rw (c.ship_class.ensures, c.width_class.ensures, c.depth_class.ensures)

@@ -12,6 +12,6 @@ returns-then-count-eq2 c = rw c.if-count-eq2.true
 
 pub returns : goal.returns
 returns c =
-    let count = c.args.t1.count in
+    let count = c.args.worksheet.count in
     let three : count ≡ 3 = omega arith in
     rw three
