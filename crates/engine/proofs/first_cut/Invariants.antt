@@ -1,0 +1,14 @@
+-- `engine::first_cut` meets its contract: the search from where the loop stands answers for all of it.
+use mathlib.Core.Path.{◌≡◌, refl, sym, ◌∙◌}
+use Prim.Native.Nat.{◌-◌, ◌≤◌}
+use native.Mathlib.Omega.{arith}
+use Rattle.engine.specs.Plain.{meets, first_depth, first_cut}
+use Rattle.engine.proofs.Searches.{depth_here, depth_end, depth_on}
+use borrow.Author.Rules.{rules}
+use Rattle.engine.proofs.first_cut.Given as goal
+
+abbrev pub invariant-loop-d : goal.invariant-loop-d
+invariant-loop-d l = (l.d ≤ 3001) × (first_depth (meets l.stretch) l.d (3001 - l.d) ≡ first_cut l.stretch)
+
+abbrev pub decreases-loop-d : goal.decreases-loop-d
+decreases-loop-d l = 3001 - l.d

@@ -1,0 +1,26 @@
+-- `engine::reason_of` meets its contract: the reason from where the loop stands is that of the whole.
+use mathlib.Core.Path.{◌≡◌, refl, sym, ◌∙◌}
+use native.Mathlib.Omega.{arith}
+use Rattle.engine.specs.Plain.{reason_from, reason_of}
+use Rattle.engine.proofs.Tests.{fails_here, falls_on, none_left}
+use borrow.Author.Rules.{rules}
+use Rattle.engine.proofs.reason_of.Goals as goal
+
+pub loop-left-init : goal.loop-left-init
+unfolding reason_of
+loop-left-init c = refl
+
+pub returns-in-Fails : goal.returns-in-Fails
+returns-in-Fails c =
+    let l = c.before.before.before.before.before in
+    fails_here l.args.stretch l.loop-left.left l.loop-left.column _ (omega arith) (sym c.ruling_of-ruling.ensures ∙ c.in-Fails.is)
+    ∙ l.loop-left.invariant
+
+pub loop-left-preserved : goal.loop-left-preserved
+loop-left-preserved c =
+    let l = c.before.before.before.before.before in
+    falls_on l.args.stretch l.loop-left.left l.loop-left.column _ (omega arith) (sym c.ruling_of-ruling.ensures ∙ c.in-FallsIn.is)
+    ∙ l.loop-left.invariant
+
+pub returns : goal.returns
+returns c = none_left c.args.stretch c.loop-left.left c.loop-left.column (omega arith) ∙ c.loop-left.invariant
