@@ -1,6 +1,5 @@
 -- `speed::check_speed` meets its contract: by the slope, then by the speed.
 use mathlib.Core.Path.{refl}
-use borrow.Author.Rules.{rules}
 use Rattle.speed.specs.declared.Speed.TheVariants.{Parts, Missing}
 use Rattle.speed.proofs.Ways.{unasked, by_speed_lem}
 use Rattle.speed.proofs.check_speed.Goals as goal

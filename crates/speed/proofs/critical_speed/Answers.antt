@@ -10,7 +10,7 @@ use Rattle.speed.proofs.critical_speed.Goals as goal
 pub weighed_of-requires : goal.weighed_of-requires
 weighed_of-requires c =
     let shallow : parts_of c.times_of-shallow.result ≤ 510000000 =
-        times_within 20000 25500 510000000 c.shallow_speed.result _ c.times_of-shallow.ensures c.shallow_speed.ensures.small (omega arith) in
+    times_within 20000 25500 510000000 c.shallow_speed.result _ c.times_of-shallow.ensures c.shallow_speed.ensures.small (omega arith) in
     let full = c.full_speed-full.ensures.small in
     (search rules, (search rules, (omega arith, omega arith)))
 
@@ -19,9 +19,9 @@ unfolding critical_speed
 returns c =
     let dug = c.dug_of-dug.ensures in
     let shallow : parts_of c.times_of-shallow.result ≤ 510000000 =
-        times_within 20000 25500 510000000 c.shallow_speed.result _ c.times_of-shallow.ensures c.shallow_speed.ensures.small (omega arith) in
+    times_within 20000 25500 510000000 c.shallow_speed.result _ c.times_of-shallow.ensures c.shallow_speed.ensures.small (omega arith) in
     let most : parts_of c.weighed_of.result ≤ 33422850000000 =
-        weighed_within _ _ 510000000 33422850000000 _ _ _ c.weighed_of.ensures shallow c.full_speed-full.ensures.small (search rules) in
+    weighed_within _ _ 510000000 33422850000000 _ _ _ c.weighed_of.ensures shallow c.full_speed-full.ensures.small (search rules) in
     record {
       value = rw (c.weighed_of.ensures, c.times_of-shallow.ensures, c.shallow_speed.ensures.value, c.full_speed-full.ensures.value, dug.0);
       small = omega arith;

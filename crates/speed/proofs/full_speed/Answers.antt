@@ -1,6 +1,5 @@
 -- `speed::full_speed` meets its contract: its neighbours are the speeds of two widths.
 use native.Mathlib.Omega.{arith}
-use borrow.Author.Rules.{rules}
 use Rattle.speed.specs.Lines.{straight}
 use Rattle.speed.proofs.lines.Sizes.{weighed_within}
 use Rattle.speed.proofs.full_speed.Goals as goal

@@ -1,5 +1,4 @@
 -- `speed::parts_of` meets its contract: each part is its own call's.
-use borrow.Author.Rules.{rules}
 use Rattle.speed.specs.Shown.{parts_shown}
 use Rattle.speed.proofs.parts_of.Goals as goal
 

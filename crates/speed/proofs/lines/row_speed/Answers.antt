@@ -1,6 +1,5 @@
 -- `speed::lines::row_speed` meets its contract: its neighbours are the points of two whole metres.
 use native.Mathlib.Omega.{arith}
-use borrow.Author.Rules.{rules}
 use Rattle.speed.specs.Lines.{straight}
 use Rattle.speed.proofs.lines.Sizes.{weighed_within}
 use Rattle.speed.proofs.lines.row_speed.Goals as goal

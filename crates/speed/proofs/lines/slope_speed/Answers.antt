@@ -1,6 +1,5 @@
 -- `speed::lines::slope_speed` meets its contract: its neighbours are the rows of two slopes.
 use native.Mathlib.Omega.{arith}
-use borrow.Author.Rules.{rules}
 use Rattle.speed.specs.Lines.{straight}
 use Rattle.speed.proofs.lines.Sizes.{weighed_within}
 use Rattle.speed.proofs.lines.slope_speed.Goals as goal

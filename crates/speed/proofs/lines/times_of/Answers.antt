@@ -1,7 +1,6 @@
 -- `speed::lines::times_of` meets its contract: by the speed's case.
 use Prim.Native.Nat.{◌^◌, ◌<◌}
 use native.Mathlib.Omega.{arith}
-use borrow.Author.Rules.{rules}
 use Rattle.laws.proofs.Products.{product_lt}
 use Rattle.speed.proofs.lines.times_of.Goals as goal
 

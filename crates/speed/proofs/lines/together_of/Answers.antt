@@ -1,7 +1,6 @@
 -- `speed::lines::together_of` meets its contract: by the case of each.
 use Prim.Native.Nat.{◌^◌, ◌<◌}
 use native.Mathlib.Omega.{arith}
-use borrow.Author.Rules.{rules}
 use Rattle.speed.proofs.lines.together_of.Goals as goal
 
 pub overflow_add-result : goal.overflow_add-result

@@ -1,8 +1,7 @@
 -- `speed::table::full_row` meets its contract: the table is the definition's, and lines outside it are tested first.
 use mathlib.Core.Path.{sym, ◌∙◌}
 use native.Mathlib.Omega.{arith}
-use borrow.Author.Rules.{rules}
-use Rattle.speed.proofs.table.Grid.{Inside, inside, no_width, no_slope, in_table}
+use Rattle.speed.proofs.table.Grid.{inside, no_width, no_slope, in_table}
 use Rattle.speed.proofs.table.full_row.Goals as goal
 
 pub returns-then-outside_of : goal.returns-then-outside_of

@@ -1,8 +1,7 @@
 -- `speed::table::point_of` meets its contract: the row is read only within it.
 use mathlib.Core.Path.{sym, ◌∙◌}
 use native.Mathlib.Omega.{arith}
-use borrow.Author.Rules.{rules}
-use Rattle.speed.proofs.table.Grid.{Inside, inside, no_depth, at_depth}
+use Rattle.speed.proofs.table.Grid.{inside, no_depth, at_depth}
 use Rattle.speed.proofs.table.point_of.Goals as goal
 
 pub returns-then-outside_of : goal.returns-then-outside_of
