@@ -1,5 +1,6 @@
 // The critical speed of a stretch, and whether its ship keeps to nine tenths of it (definition, section 13).
 #![tactic(auto)]
+
 ghost use Rattle.std.specs.Prelude.{◌≡◌, ◌-◌, ◌^◌, ◌≤◌, ◌<◌};
 ghost use Rattle.datum.specs.Datum.{dug};
 ghost use Rattle.speed.specs.Lines.{parts_of};

@@ -1,5 +1,6 @@
 // The width of a stretch, in tenths of the beam, and its bends (definition, sections 5 and 6).
 #![tactic(auto)]
+
 ghost use Rattle.std.specs.Prelude.{◌≡◌, ◌<◌, ◌^◌};
 ghost use Rattle.width.specs.Bands.{water_of, speed_band_of, entries_of};
 ghost use Rattle.width.specs.Bends.{least_radius, bend_of, widening_figure};

@@ -1,7 +1,6 @@
 -- `speed::fastest_of` meets its contract: by the speed's case, whose parts are few enough that nothing wraps.
 use Prim.Native.Nat.{◌^◌, ◌<◌}
 use native.Mathlib.Omega.{arith}
-use borrow.Author.Rules.{rules}
 use Rattle.speed.specs.Shown.{fastest_speed}
 use Rattle.speed.proofs.Showing.{over_missing}
 use Rattle.speed.proofs.fastest_of.Goals as goal

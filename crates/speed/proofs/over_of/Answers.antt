@@ -1,5 +1,4 @@
 -- `speed::over_of` meets its contract: by the divisor, and then the speed's case.
-use borrow.Author.Rules.{rules}
 use Rattle.speed.proofs.Showing.{over_none, over_some}
 use Rattle.speed.proofs.over_of.Goals as goal
 

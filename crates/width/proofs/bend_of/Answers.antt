@@ -6,26 +6,26 @@ use Rattle.width.proofs.bends.Ways.{lengths_within, straight, tight, long_enough
 use Rattle.width.proofs.bend_of.Goals as goal
 
 pub returns-then-turn-eq0 : goal.returns-then-turn-eq0
-returns-then-turn-eq0 c = (straight _ _ _ _ _ c.if-turn-eq0.true, omega arith)
+returns-then-turn-eq0 c = record { value = straight _ _ _ _ _ c.if-turn-eq0.true; small = omega arith }
 
 pub overflow_mul-least_lengths : goal.overflow_mul-least_lengths
 overflow_mul-least_lengths c = record { fits = omega (arith, mul-le-mul {n₁ = c.least_lengths.result} {m₁ = c.args.length} {n₂ = 10} {m₂ = 65535} (omega (arith, c.least_lengths.ensures, (lengths_within c.args.turn).1)) (search rules)) }
 
 pub returns-then-reach-least_lengths : goal.returns-then-reach-least_lengths
-returns-then-reach-least_lengths c = (tight _ _ _ _ _ c.if-turn-eq0.false _ c.least_lengths.ensures c.if-reach-least_lengths.true, omega arith)
+returns-then-reach-least_lengths c = record { value = tight _ _ _ _ _ c.if-turn-eq0.false _ c.least_lengths.ensures c.if-reach-least_lengths.true; small = omega arith }
 
 pub widening-requires : goal.widening-requires
-widening-requires c = let w = c.before in
-    long_enough _ _ _ c.args.knots c.args.lanes w.if-turn-eq0.false _ w.least_lengths.ensures w.if-reach-least_lengths.false c.if-reach-ship.true
+widening-requires c =
+    long_enough _ _ _ c.args.knots c.args.lanes c.if-turn-eq0.false _ c.least_lengths.ensures c.if-reach-least_lengths.false c.if-reach-ship.true
 
 pub returns-then-reach-ship : goal.returns-then-reach-ship
-returns-then-reach-ship c = let w = c.before.before in (
-  widened _ _ _ _ _ w.if-turn-eq0.false _ w.least_lengths.ensures w.if-reach-least_lengths.false c.if-reach-ship.true _ c.widening.ensures.0,
-  c.widening.ensures.1,
-)
+returns-then-reach-ship c = record {
+  value = widened _ _ _ _ _ c.if-turn-eq0.false _ c.least_lengths.ensures c.if-reach-least_lengths.false c.if-reach-ship.true _ c.widening.ensures.value;
+  small = c.widening.ensures.small;
+}
 
 pub returns : goal.returns
-returns c = let w = c.before in (
-  wide _ _ _ _ _ w.if-turn-eq0.false _ w.least_lengths.ensures w.if-reach-least_lengths.false c.if-reach-ship.false,
-  omega arith,
-)
+returns c = record {
+  value = wide _ _ _ _ _ c.if-turn-eq0.false _ c.least_lengths.ensures c.if-reach-least_lengths.false c.if-reach-ship.false;
+  small = omega arith;
+}

@@ -1,5 +1,4 @@
 -- `width::items_of` meets its contract, item by item.
-use borrow.Author.Rules.{rules}
 use Rattle.width.proofs.Totals.{items_are}
 use Rattle.width.proofs.items_of.Goals as goal
 

@@ -1,5 +1,4 @@
 -- `width::tenths_of` meets its contract: a way out for each number of lanes.
-use borrow.Author.Rules.{rules}
 use Rattle.width.proofs.Totals.{in_one_lane, in_two_lanes}
 use Rattle.width.proofs.tenths_of.Goals as goal
 

@@ -1,6 +1,5 @@
 -- `speed::lines::part_of` meets its contract: by the weight.
 use mathlib.Core.Path.{sym, ◌∙◌}
-use borrow.Author.Rules.{rules}
 use Rattle.speed.proofs.lines.Weighing.{part_none, part_some}
 use Rattle.speed.proofs.lines.part_of.Goals as goal
 

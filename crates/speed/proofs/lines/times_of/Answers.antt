@@ -1,15 +1,13 @@
 -- `speed::lines::times_of` meets its contract: by the speed's case.
 use Prim.Native.Nat.{◌^◌, ◌<◌}
 use native.Mathlib.Omega.{arith}
-use borrow.Author.Rules.{rules}
 use Rattle.laws.proofs.Products.{product_lt}
 use Rattle.speed.proofs.lines.times_of.Goals as goal
 
 pub overflow_mul-result : goal.overflow_mul-result
 overflow_mul-result c =
-    let args = c.before.before.before in
-    let small : c.in-Parts.parts < 2 ^ 29 = rw c.in-Parts.is at args.requires.1 in
-    record { fits = omega (arith, product_lt 16 29 {a = args.args.weight} {b = c.in-Parts.parts} args.requires.0 small) }
+    let small : c.in-Parts.parts < 2 ^ 29 = rw c.in-Parts.is at c.requires.1 in
+    record { fits = omega (arith, product_lt 16 29 {a = c.args.weight} {b = c.in-Parts.parts} c.requires.0 small) }
 
 pub returns-in-Parts : goal.returns-in-Parts
 returns-in-Parts c = rw c.in-Parts.is

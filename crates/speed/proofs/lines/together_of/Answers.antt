@@ -1,14 +1,12 @@
 -- `speed::lines::together_of` meets its contract: by the case of each.
 use Prim.Native.Nat.{◌^◌, ◌<◌}
 use native.Mathlib.Omega.{arith}
-use borrow.Author.Rules.{rules}
 use Rattle.speed.proofs.lines.together_of.Goals as goal
 
 pub overflow_add-result : goal.overflow_add-result
 overflow_add-result c =
-    let first = c.before.before.before.before in
-    let pre = first.requires in
-    let low : first.in-Parts.first < 2 ^ 45 = rw first.in-Parts.is at pre.0 in
+    let pre = c.requires in
+    let low : c.in-Parts.first < 2 ^ 45 = rw c.in-Parts.is at pre.0 in
     let high : c.in-Parts-other.second < 2 ^ 45 = rw c.in-Parts-other.is at pre.1 in
     record { fits = omega arith }
 

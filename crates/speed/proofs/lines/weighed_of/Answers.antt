@@ -1,5 +1,4 @@
 -- `speed::lines::weighed_of` meets its contract: the two parts together.
-use borrow.Author.Rules.{rules}
 use Rattle.speed.specs.Lines.{weighed}
 use Rattle.speed.proofs.lines.Sizes.{part_small}
 use Rattle.speed.proofs.lines.weighed_of.Goals as goal

@@ -2,7 +2,6 @@
 use Prim.Native.Nat.{◌+◌}
 use mathlib.Core.Path.{ap₂}
 use native.Mathlib.Omega.{arith}
-use borrow.Author.Rules.{rules}
 use Rattle.width.specs.Additions.{banks_item}
 use Rattle.width.proofs.additions.Banks.{bank_within}
 use Rattle.width.proofs.additions.banks_item.Goals as goal

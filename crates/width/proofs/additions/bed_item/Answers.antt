@@ -1,5 +1,4 @@
 -- `width::additions::bed_item` meets its contract: a way out for each case of the definition.
-use borrow.Author.Rules.{rules}
 use borrow.Author.Tests.{le-leb, lt-leb, eq-eqb, ne_eqb}
 use Rattle.width.specs.Additions.{bed_item}
 use Rattle.width.proofs.additions.bed_item.Goals as goal

@@ -1,5 +1,4 @@
 -- `width::additions::cargo_item` meets its contract: a way out for each case of the definition.
-use borrow.Author.Rules.{rules}
 use borrow.Author.Tests.{eq-eqb, ne_eqb}
 use Rattle.width.specs.Additions.{cargo_item}
 use Rattle.width.proofs.additions.cargo_item.Goals as goal

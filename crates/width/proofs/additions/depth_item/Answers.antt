@@ -1,5 +1,4 @@
 -- `width::additions::depth_item` meets its contract: a way out for each case of the definition.
-use borrow.Author.Rules.{rules}
 use borrow.Author.Tests.{le-leb, lt-leb}
 use Rattle.width.specs.Additions.{depth_item}
 use Rattle.width.proofs.additions.depth_item.Goals as goal

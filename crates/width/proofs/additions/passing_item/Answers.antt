@@ -1,5 +1,4 @@
 -- `width::additions::passing_item` meets its contract: the pair of the water, at the speed.
-use borrow.Author.Rules.{rules}
 use Rattle.width.specs.Additions.{passing_item}
 use Rattle.width.proofs.additions.passing_item.Goals as goal
 

@@ -1,5 +1,4 @@
 -- `width::additions::wind_item` meets its contract: a way out for each case of the definition.
-use borrow.Author.Rules.{rules}
 use borrow.Author.Tests.{le-leb, le-ltb, lt-leb, lt-ltb}
 use Rattle.width.specs.Additions.{wind_item}
 use Rattle.width.proofs.additions.wind_item.Goals as goal

@@ -1,5 +1,4 @@
 -- `width::bands::along_item` meets its contract: a way out for each line of the annex.
-use borrow.Author.Rules.{rules}
 use borrow.Author.Tests.{le-leb, le-ltb, lt-leb, lt-ltb}
 use Rattle.width.specs.Bands.{along_item}
 use Rattle.width.proofs.bands.along_item.Goals as goal

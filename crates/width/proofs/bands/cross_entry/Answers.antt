@@ -1,5 +1,4 @@
 -- `width::bands::cross_entry` meets its contract: a way out for each line of the annex.
-use borrow.Author.Rules.{rules}
 use borrow.Author.Tests.{le-leb, le-ltb, lt-leb, lt-ltb}
 use Rattle.width.specs.Bands.{cross_entry}
 use Rattle.width.proofs.bands.cross_entry.Goals as goal

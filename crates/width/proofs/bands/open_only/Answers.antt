@@ -1,5 +1,4 @@
 -- `width::bands::open_only` meets its contract: a way out for each water.
-use borrow.Author.Rules.{rules}
 use Rattle.width.proofs.bands.open_only.Goals as goal
 
 pub returns-in-Open : goal.returns-in-Open

@@ -1,5 +1,4 @@
 -- `width::bands::wave_entry` meets its contract: a way out for each line of the annex.
-use borrow.Author.Rules.{rules}
 use borrow.Author.Tests.{le-leb, lt-leb}
 use Rattle.width.specs.Bands.{wave_entry}
 use Rattle.width.proofs.bands.wave_entry.Goals as goal

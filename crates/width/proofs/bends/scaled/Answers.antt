@@ -1,7 +1,6 @@
 -- `width::bends::scaled` meets its contract: the quotient in two parts is the whole quotient, and each part fits.
 use mathlib.Core.Path.{sym}
 use native.Mathlib.Omega.{arith}
-use borrow.Author.Rules.{rules}
 use Rattle.laws.proofs.Quotients.{up_parts}
 use Rattle.width.proofs.bends.Products.{whole_within, rest_within}
 use Rattle.width.proofs.bends.scaled.Goals as goal

@@ -56,7 +56,7 @@ pub overflow_cast-result : goal.overflow_cast-result
 overflow_cast-result c = record { fits = omega (arith, small c) }
 
 pub returns : goal.returns
-returns c = (
-  widening_is _ _ _ _ _ _ _ c.requires.some c.lane_count.ensures c.scaled.ensures,
-  omega (arith, small c),
-)
+returns c = record {
+  value = widening_is _ _ _ _ _ _ _ c.requires.some c.lane_count.ensures c.scaled.ensures;
+  small = omega (arith, small c);
+}
