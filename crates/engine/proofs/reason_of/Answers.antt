@@ -12,15 +12,13 @@ loop-left-init c = refl
 
 pub returns-in-Fails : goal.returns-in-Fails
 returns-in-Fails c =
-    let l = c.before.before.before.before.before in
-    fails_here l.args.stretch l.loop-left.left l.loop-left.column _ (omega arith) (sym c.ruling_of-ruling.ensures ∙ c.in-Fails.is)
-    ∙ l.loop-left.invariant
+    fails_here c.args.stretch c.loop-left.left c.loop-left.column _ (omega arith) (sym c.ruling_of-ruling.ensures ∙ c.in-Fails.is)
+    ∙ c.loop-left.invariant
 
 pub loop-left-preserved : goal.loop-left-preserved
 loop-left-preserved c =
-    let l = c.before.before.before.before.before in
-    falls_on l.args.stretch l.loop-left.left l.loop-left.column _ (omega arith) (sym c.ruling_of-ruling.ensures ∙ c.in-FallsIn.is)
-    ∙ l.loop-left.invariant
+    falls_on c.args.stretch c.loop-left.left c.loop-left.column _ (omega arith) (sym c.ruling_of-ruling.ensures ∙ c.in-FallsIn.is)
+    ∙ c.loop-left.invariant
 
 pub returns : goal.returns
 returns c = none_left c.args.stretch c.loop-left.left c.loop-left.column (omega arith) ∙ c.loop-left.invariant
