@@ -6,4 +6,4 @@ use lib.ListN.{get_or-eq_default}
 use Rattle.sheet.proofs.bits.group_at.Goals as goal
 
 pub returns-else-i-lt-COUNT : goal.returns-else-i-lt-COUNT
-returns-else-i-lt-COUNT c = let length : _ = c.well-formed.0.1.0.1 in sym (get_or-eq_default c.args.t1 0 (omega arith))
+returns-else-i-lt-COUNT c = let length : _ = c.well_formed.0.1.0.1 in sym (get_or-eq_default c.args.figures 0 (omega arith))

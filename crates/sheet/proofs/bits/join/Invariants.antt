@@ -16,6 +16,11 @@ use Rattle.sheet.proofs.bits.Steps.{first_lt}
 use Rattle.sheet.proofs.bits.Groups.{starts_le}
 use Rattle.sheet.proofs.bits.join.Given as goal
 
+-- the bytes past the sheet stay
+pub record Rest (place₀ place : List ℕ) : Type 0 where
+  pub same : length place ≡ length place₀
+  pub tail : drop 28 place ≡ drop 28 place₀
+
 abbrev pub invariant-loop-held : goal.invariant-loop-held
 invariant-loop-held l = Mid width (nth l.figures) eight (nth l.place) (l.i + 1) l.at l.held.bits l.held.n × (l.held.n < 28) × Rest l.initial.place l.place
 

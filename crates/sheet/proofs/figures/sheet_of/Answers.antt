@@ -8,7 +8,7 @@ use Rattle.sheet.proofs.figures.sheet_of.Goals as goal
 
 pub returns : goal.returns
 unfolding sheet_of
-returns c = c.sheet_with.ensures ∙ ap₂ (sheet_with c.args.t1) c.bed_of-bed.ensures c.level_source-level.ensures
+returns c = c.sheet_with.ensures ∙ ap₂ (sheet_with c.args.figures) c.bed_of-bed.ensures c.level_source-level.ensures
 
 pub overflow_cast-figures : goal.overflow_cast-figures
 overflow_cast-figures c = record { fits = held _ c.requires 5 (lit< tt) }
