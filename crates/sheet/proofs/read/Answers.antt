@@ -1,6 +1,5 @@
 -- `sheet::read` meets its contract: each way out is a case of `read_of`.
 use mathlib.Core.Path.{ap, ◌∙◌}
-use borrow.Author.Rules.{rules}
 use Rattle.sheet.specs.Sheets.{sheet_from}
 use Rattle.sheet.proofs.sheets.Answers.{read_length, read_spare, read_from, figures_in_lem}
 use Rattle.sheet.proofs.read.Goals as goal

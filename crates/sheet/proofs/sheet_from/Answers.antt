@@ -1,6 +1,5 @@
 -- `sheet::sheet_from` meets its contract: each way out is a case of `sheet_from`.
 use mathlib.Core.Path.{sym, ◌∙◌}
-use borrow.Author.Rules.{rules}
 use Rattle.sheet.proofs.sheets.Making.{from_bad, from_good}
 use Rattle.sheet.proofs.sheets.Valid.{fine_narrow, figures_end}
 use Rattle.sheet.proofs.sheet_from.Goals as goal

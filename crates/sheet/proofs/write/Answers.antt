@@ -3,7 +3,6 @@ use mathlib.Core.Path.{◌≡◌, sym, ◌∙◌}
 use Rattle.sheet.specs.Fields.{first_bad}
 use Rattle.sheet.proofs.sheets.Answers.{write_small, write_bad, write_done}
 use Rattle.sheet.proofs.sheets.Valid.{fine_narrow, figures_spare}
-use borrow.Author.Rules.{rules}
 use Rattle.sheet.proofs.write.Goals as goal
 
 pub returns-then-bad-ne0 : goal.returns-then-bad-ne0

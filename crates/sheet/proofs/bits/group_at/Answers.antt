@@ -1,7 +1,6 @@
 -- `sheet::bits::group_at` meets its contract: past the fields there is no figure.
 use mathlib.Core.Path.{sym}
 use native.Mathlib.Omega.{arith}
-use borrow.Author.Rules.{rules}
 use lib.ListN.{get_or-eq_default}
 use Rattle.sheet.proofs.bits.group_at.Goals as goal
 

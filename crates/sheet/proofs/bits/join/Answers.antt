@@ -1,10 +1,8 @@
 -- `sheet::bits::join` meets its contract: the same steps as `split`, with the two kinds of groups exchanged.
 use mathlib.Core.Path.{◌≡◌, refl, sym, ◌∙◌}
-use mathlib.Core.List.{List}
-use Prim.Native.Nat.{ℕ, ◌≤◌, ◌<◌, ◌-◌, ◌+◌}
+use Prim.Native.Nat.{◌≤◌, ◌<◌, ◌+◌}
 use native.Mathlib.Omega.{arith}
-use borrow.Author.Rules.{rules}
-use lib.ListN.{length, take, drop, length-set, take-append-drop}
+use lib.ListN.{length, take, length-set, take-append-drop}
 use lib.Seq.{drop-set-lt, length-take-le, get_or-take}
 use Rattle.sheet.specs.Bits.{joined, cut}
 use Rattle.sheet.specs.Fields.{groups, width, nth}
@@ -14,7 +12,6 @@ use Rattle.sheet.proofs.bits.Regroup.{mid_start, mid_in, mid_set, mid_done, list
 use Rattle.sheet.proofs.bits.Widths.{width_le, starts_eight, starts_width}
 use Rattle.sheet.proofs.bits.Steps.{first_lt}
 use Rattle.sheet.proofs.bits.Groups.{starts_le}
-use Rattle.sheet.proofs.bits.join.Invariants.{Rest}
 use Rattle.sheet.proofs.bits.join.Goals.{In-loop-held}
 use Rattle.sheet.proofs.bits.join.Goals as goal
 

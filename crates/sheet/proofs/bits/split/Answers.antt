@@ -1,7 +1,6 @@
 -- `sheet::bits::split` meets its contract: it begins with no field and goes on to the last, and holds the spare bits then.
 use mathlib.Core.Path.{refl}
 use native.Mathlib.Omega.{arith}
-use borrow.Author.Rules.{rules}
 use Rattle.sheet.proofs.bits.Splitting.{split_start, split_all}
 use Rattle.sheet.proofs.bits.split.Goals as goal
 

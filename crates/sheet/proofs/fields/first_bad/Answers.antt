@@ -1,7 +1,6 @@
 -- `sheet::fields::first_bad` meets its contract: none of the fields that were passed is bad.
 use mathlib.Core.Path.{◌∙◌}
 use native.Mathlib.Omega.{arith}
-use borrow.Author.Rules.{rules}
 use Rattle.sheet.proofs.fields.BadRuns.{Passed, passed_none, passed_run, passed_run_bad}
 use Rattle.sheet.proofs.fields.first_bad.Goals.{Else-of_nine-ne0, Else-of_next-ne0, Else-of_last-ne0}
 use Rattle.sheet.proofs.fields.first_bad.Goals as goal

@@ -1,6 +1,5 @@
 -- `sheet::figures::sheet_of` meets its contract: the bed and the level are those of `sheet_of`.
 use mathlib.Core.Path.{ap₂, ◌∙◌}
-use borrow.Author.Rules.{rules}
 use lib.Dec.{lit<}
 use Rattle.sheet.specs.Sheets.{sheet_with, sheet_of}
 use Rattle.sheet.proofs.figures.Types.{held}
