@@ -1,5 +1,6 @@
 // The sheet: 28 bytes, 29 fields packed most significant bit first (definition, section 1).
 #![tactic(auto)]
+
 ghost use Rattle.std.specs.Prelude.{◌≡◌};
 ghost use Rattle.sheet.specs.Fields.{range_of, standing_of};
 ghost use Rattle.sheet.specs.Refusals.{read_fault_number, read_fault_field, write_fault_number, write_fault_field};

@@ -1,5 +1,4 @@
 -- `sheet::range_of` meets its contract: the values are those of the field's row.
-use borrow.Author.Rules.{rules}
 use Rattle.sheet.specs.Fields.{least, greatest, range_of}
 use Rattle.sheet.proofs.range_of.Goals as goal
 

@@ -1,6 +1,5 @@
 -- `sheet::read` meets its contract: each way out is a case of `read_of`.
 use mathlib.Core.Path.{ap, ◌∙◌}
-use borrow.Author.Rules.{rules}
 use Rattle.sheet.specs.Sheets.{sheet_from}
 use Rattle.sheet.proofs.sheets.Answers.{read_length, read_spare, read_from, figures_in_lem}
 use Rattle.sheet.proofs.read.Goals as goal
@@ -13,8 +12,7 @@ returns-then-parts-ne0 c = read_spare _ _ c.if-bytes-ne28.false c.split-parts.en
 
 pub returns : goal.returns
 returns c =
-    let split = c.before.before.before.before in
     c.sheet_from.ensures
-    ∙ ap sheet_from split.split-parts.ensures.0
+    ∙ ap sheet_from c.split-parts.ensures.0
     ∙ figures_in_lem _
-    ∙ read_from _ _ split.if-bytes-ne28.false split.split-parts.ensures.1 c.if-parts-ne0.false
+    ∙ read_from _ _ c.if-bytes-ne28.false c.split-parts.ensures.1 c.if-parts-ne0.false

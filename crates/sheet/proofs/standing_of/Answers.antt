@@ -1,5 +1,4 @@
 -- `sheet::standing_of` meets its contract: each way out is a case of `standing_of`.
-use borrow.Author.Rules.{rules}
 use borrow.Author.Tests.{le-leb, lt-leb}
 use Rattle.sheet.specs.Fields.{count, standing_of}
 use Rattle.sheet.proofs.standing_of.Goals as goal

@@ -3,7 +3,6 @@ use mathlib.Core.Path.{◌≡◌, sym, ◌∙◌}
 use Rattle.sheet.specs.Fields.{first_bad}
 use Rattle.sheet.proofs.sheets.Answers.{write_small, write_bad, write_done}
 use Rattle.sheet.proofs.sheets.Valid.{fine_narrow, figures_spare}
-use borrow.Author.Rules.{rules}
 use Rattle.sheet.proofs.write.Goals as goal
 
 pub returns-then-bad-ne0 : goal.returns-then-bad-ne0
@@ -14,13 +13,11 @@ pub join-requires : goal.join-requires
 join-requires c =
     let figures = c.figures_of-figures in
     let none : first_bad figures.result ≡ 0 = sym c.first_bad-bad.ensures ∙ c.if-bad-ne0.false in
-    (fine_narrow figures.result none (rw figures.ensures (figures_spare _)), c.if-place-lt28.false)
+    record { narrow = fine_narrow figures.result none (rw figures.ensures (figures_spare _)); in_bounds = c.if-place-lt28.false }
 
 pub returns : goal.returns
 returns c =
-    let bad = c.before.before.before.before.before in
-    write_done _ _ _ _ bad.if-place-lt28.false bad.figures_of-figures.ensures bad.first_bad-bad.ensures _
-    c.if-bad-ne0.false c.join.ensures
+    write_done _ _ _ _ c.if-place-lt28.false c.figures_of-figures.ensures c.first_bad-bad.ensures _ c.if-bad-ne0.false c.join.ensures
 
 pub returns-then-place-lt28 : goal.returns-then-place-lt28
 returns-then-place-lt28 c = write_small _ _ c.if-place-lt28.true

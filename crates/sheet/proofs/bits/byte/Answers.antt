@@ -1,7 +1,6 @@
 -- `sheet::bits::byte` meets its contract: what a slice of bytes holds is a byte.
 use mathlib.Core.Path.{refl}
 use native.Mathlib.Omega.{arith}
-use borrow.Author.Rules.{rules}
 use Rattle.sheet.proofs.bits.byte.Goals as goal
 
 pub overflow_cast-result : goal.overflow_cast-result

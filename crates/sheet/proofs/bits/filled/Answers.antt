@@ -6,17 +6,14 @@ use Rattle.sheet.proofs.bits.Splitting.{word_lt}
 use Rattle.sheet.proofs.bits.filled.Goals as goal
 
 pub word-requires : goal.word-requires
-word-requires c =
-    let s = c.before.before.before.before in
-    (s.requires.0, (s.requires.1.1 c.if-w-held.false).1)
+word-requires c = record { bytes_len = c.requires.bytes_len; k_bound = (c.requires.n_bound c.if-w-held.false).1 }
 
 pub put-more-requires : goal.put-more-requires
-put-more-requires c =
-    let s = c.before.before.before.before.before in (
-      s.requires.1.0,
-      rw c.word.ensures (word_lt s.args.bytes.now (λ k. (c.shared_slice_known-1.given k).fits) s.args.between.words),
-      omega (arith, s.requires.1.1 c.if-w-held.false),
-    )
+put-more-requires c = (
+  c.requires.bits_bound,
+  rw c.word.ensures (word_lt c.args.bytes.now (λ k. (c.shared_slice_known-1.given k).fits) c.args.between.words),
+  omega (arith, c.requires.n_bound c.if-w-held.false),
+)
 
 pub returns-then-w-held : goal.returns-then-w-held
 unfolding filled_of
@@ -24,7 +21,7 @@ returns-then-w-held c = rw (le-ltb _ _ c.if-w-held.true)
 
 pub overflow_add-result : goal.overflow_add-result
 unfolding filled_of
-overflow_add-result c = omega (arith, c.requires.1.1 c.if-w-held.false)
+overflow_add-result c = omega (arith, c.requires.n_bound c.if-w-held.false)
 
 pub returns : goal.returns
 unfolding filled_of

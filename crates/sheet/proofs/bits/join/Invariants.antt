@@ -1,20 +1,17 @@
 -- `sheet::bits::join` meets its contract: the same steps as `split`, with the two kinds of groups exchanged.
-use mathlib.Core.Path.{◌≡◌, refl, sym, ◌∙◌}
+use mathlib.Core.Path.{◌≡◌}
 use mathlib.Core.List.{List}
 use Prim.Native.Nat.{ℕ, ◌≤◌, ◌<◌, ◌-◌, ◌+◌}
-use native.Mathlib.Omega.{arith}
-use borrow.Author.Rules.{rules}
-use lib.ListN.{length, take, drop, length-set, take-append-drop}
-use lib.Seq.{drop-set-lt, length-take-le, get_or-take}
-use Rattle.sheet.specs.Bits.{joined, cut}
+use lib.ListN.{length, drop}
 use Rattle.sheet.specs.Fields.{groups, width, nth}
-use Rattle.sheet.specs.Packing.{eight, listed, bytes_of, Narrow}
+use Rattle.sheet.specs.Packing.{eight}
 use Rattle.sheet.specs.Regrouping.{Mid}
-use Rattle.sheet.proofs.bits.Regroup.{mid_start, mid_in, mid_set, mid_done, listed_is}
-use Rattle.sheet.proofs.bits.Widths.{width_le, starts_eight, starts_width}
-use Rattle.sheet.proofs.bits.Steps.{first_lt}
-use Rattle.sheet.proofs.bits.Groups.{starts_le}
 use Rattle.sheet.proofs.bits.join.Given as goal
+
+-- the bytes past the sheet stay
+pub record Rest (place₀ place : List ℕ) : Type 0 where
+  pub same : length place ≡ length place₀
+  pub tail : drop 28 place ≡ drop 28 place₀
 
 abbrev pub invariant-loop-held : goal.invariant-loop-held
 invariant-loop-held l = Mid width (nth l.figures) eight (nth l.place) (l.i + 1) l.at l.held.bits l.held.n × (l.held.n < 28) × Rest l.initial.place l.place

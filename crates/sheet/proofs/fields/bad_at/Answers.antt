@@ -1,6 +1,5 @@
 -- `sheet::fields::bad_at` meets its contract: each way out is a law of `bad_at`.
 use mathlib.Core.Path.{sym, ◌∙◌}
-use borrow.Author.Rules.{rules}
 use Rattle.sheet.proofs.fields.Rules.{bad_outside, bad_by_pair}
 use Rattle.sheet.proofs.fields.bad_at.Goals as goal
 

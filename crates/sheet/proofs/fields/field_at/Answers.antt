@@ -122,4 +122,4 @@ returns-in-28 c = rw c.in-28.is
 
 pub returns-in_default : goal.returns-in_default
 unfolding field_at fields
-returns-in_default c = no_field _ (missed_past count _ c.in-0.rest)
+returns-in_default c = no_field _ (missed_past count _ c.in_default.in_default-own.rest)

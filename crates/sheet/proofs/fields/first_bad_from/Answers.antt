@@ -1,8 +1,6 @@
 -- `sheet::fields::first_bad_from` meets its contract: the search from where the loop stands answers for all the fields past the first `from`.
-use mathlib.Core.Path.{◌≡◌, refl, sym, ◌∙◌}
-use Prim.Native.Nat.{◌-◌}
+use mathlib.Core.Path.{refl, sym, ◌∙◌}
 use native.Mathlib.Omega.{arith}
-use borrow.Author.Rules.{rules}
 use Rattle.laws.proofs.First.{first_end, first_here, first_on}
 use Rattle.sheet.specs.Fields.{count, bad_at, first_bad_from}
 use Rattle.sheet.proofs.fields.first_bad_from.Goals as goal

@@ -1,8 +1,6 @@
 -- `sheet::fields::first_outside` meets its contract: the search from where the loop stands answers for the whole run.
-use mathlib.Core.Path.{◌≡◌, refl, sym, ◌∙◌}
-use Prim.Native.Nat.{◌-◌}
+use mathlib.Core.Path.{refl, sym, ◌∙◌}
 use native.Mathlib.Omega.{arith}
-use borrow.Author.Rules.{rules}
 use Rattle.laws.proofs.First.{first_end, first_here, first_on}
 use Rattle.sheet.specs.Fields.{outside_at, first_outside}
 use Rattle.sheet.proofs.fields.first_outside.Goals as goal

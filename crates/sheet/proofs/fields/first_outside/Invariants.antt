@@ -1,10 +1,7 @@
 -- `sheet::fields::first_outside` meets its contract: the search from where the loop stands answers for the whole run.
-use mathlib.Core.Path.{◌≡◌, refl, sym, ◌∙◌}
+use mathlib.Core.Path.{◌≡◌}
 use Prim.Native.Nat.{◌-◌}
-use native.Mathlib.Omega.{arith}
-use borrow.Author.Rules.{rules}
-use Rattle.laws.proofs.First.{first_end, first_here, first_on}
-use Rattle.sheet.specs.Fields.{outside_at, first_outside}
+use Rattle.sheet.specs.Fields.{first_outside}
 use Rattle.sheet.proofs.fields.first_outside.Given as goal
 
 abbrev pub invariant-loop-i : goal.invariant-loop-i

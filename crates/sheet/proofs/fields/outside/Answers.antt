@@ -1,5 +1,4 @@
 -- `sheet::fields::outside` meets its contract: each way out is a law of `outside_at`.
-use borrow.Author.Rules.{rules}
 use Rattle.sheet.specs.Fields.{least, greatest}
 use Rattle.sheet.proofs.fields.Rules.{outside_small, outside_great}
 use Rattle.sheet.proofs.fields.outside.Goals as goal

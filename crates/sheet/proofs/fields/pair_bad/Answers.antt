@@ -1,5 +1,4 @@
 -- `sheet::fields::pair_bad` meets its contract: each way out is a case of `pair_bad`.
-use borrow.Author.Rules.{rules}
 use borrow.Author.Tests.{eq-eqb, ne_eqb}
 use Rattle.sheet.specs.Fields.{pair_bad}
 use Rattle.sheet.proofs.fields.pair_bad.Goals as goal

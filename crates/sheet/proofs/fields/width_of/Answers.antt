@@ -1,6 +1,5 @@
 -- `sheet::fields::width_of` meets its contract: a field's bits, or the spare bits.
 use mathlib.Core.Path.{ap}
-use borrow.Author.Rules.{rules}
 use borrow.Author.Tests.{lt-ltb, le-ltb}
 use Rattle.sheet.specs.Fields.{count, width}
 use Rattle.sheet.specs.declared.fields.Field.{Field}

@@ -1,7 +1,6 @@
 -- `sheet::figures::bed_of` meets its contract: 16 bits have no sign.
 use mathlib.Core.Path.{ap}
 use native.Mathlib.Omega.{arith}
-use borrow.Author.Rules.{rules}
 use mir.Syntax.{w32}
 use mir.Facts.{to_z_pos}
 use Rattle.datum.specs.Datum.{below_chart}

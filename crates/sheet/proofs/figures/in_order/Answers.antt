@@ -1,7 +1,6 @@
 -- `sheet::figures::in_order` meets its contract: each figure is widened from its own field, and loses nothing.
 -- What is known of the sheet is a row of its fields' sizes: field k stands behind k others.
 use mir.Facts.{Fits-widen}
-use borrow.Author.Rules.{rules}
 use Rattle.sheet.specs.Sheets.{figures_of}
 use Rattle.sheet.proofs.figures.in_order.Goals as goal
 

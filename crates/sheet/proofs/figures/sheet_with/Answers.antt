@@ -1,5 +1,4 @@
 -- `sheet::figures::sheet_with` meets its contract: each figure is narrowed to its own field's type, and fits it.
-use borrow.Author.Rules.{rules}
 use lib.Dec.{lit<}
 use Rattle.sheet.proofs.figures.Types.{held}
 use Rattle.sheet.proofs.figures.sheet_with.Goals as goal

@@ -1,6 +1,5 @@
 -- `sheet::bits::Held::put` meets its contract: below 2 ^ 60 the shift and the sum lose nothing.
 use mathlib.Core.Path.{refl}
-use borrow.Author.Rules.{rules}
 use native.Mathlib.Omega.{arith}
 use Rattle.sheet.proofs.bits.Steps.{put_fits, put_shift}
 use Rattle.sheet.proofs.bits.Held.put.Goals as goal
