@@ -1,0 +1,29 @@
+-- `design::checks::of_sheet` meets its contract: by the ship's length, then by the level that the sheet is worked at.
+use mathlib.Core.Path.{ap, sym, ◌∙◌}
+use Prim.Native.Nat.{◌*◌}
+use borrow.Author.Rules.{rules}
+use borrow.Author.Tests.{lt-ltb, le-ltb}
+use Rattle.design.specs.Design.{by_level, of_sheet}
+use Rattle.design.proofs.checks.of_sheet.Goals as goal
+
+pub returns-then-sheet : goal.returns-then-sheet
+unfolding of_sheet
+returns-then-sheet c =
+    let sheet = c.args.sheet in
+    rw (lt-ltb sheet.length (3 * sheet.beam) c.if-sheet.true)
+
+pub returns-in-Found : goal.returns-in-Found
+unfolding of_sheet
+returns-in-Found c =
+    let read = c.before.before.before.before in
+    let sheet = read.args.sheet in
+    rw (le-ltb sheet.length (3 * sheet.beam) read.if-sheet.false)
+    (c.at_level.ensures ∙ ap (by_level sheet) (sym c.in-Found.is ∙ read.level_for-level.ensures))
+
+pub returns-in-NoLevel : goal.returns-in-NoLevel
+unfolding of_sheet
+returns-in-NoLevel c =
+    let read = c.before.before.before in
+    let sheet = read.args.sheet in
+    rw (le-ltb sheet.length (3 * sheet.beam) read.if-sheet.false)
+    (ap (by_level sheet) (sym c.in-NoLevel.is ∙ read.level_for-level.ensures))

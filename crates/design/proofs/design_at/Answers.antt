@@ -1,0 +1,19 @@
+-- `design::design_at` meets its contract: by what the bytes are read as.
+use mathlib.Core.Path.{ap, sym, ◌∙◌}
+use borrow.Author.Rules.{rules}
+use Rattle.sheet.specs.declared.SheetRead.{SheetRead}
+use Rattle.design.specs.Design.{by_reading, design_at}
+use Rattle.design.proofs.design_at.Goals as goal
+
+pub returns-in-Good : goal.returns-in-Good
+unfolding design_at
+returns-in-Good c =
+    let read = c.before.before.before.before in
+    c.of_sheet_lem.ensures
+    ∙ ap (λ (r : SheetRead). by_reading r read.args.level) (sym c.in-Good.is ∙ read.read-reading.ensures)
+
+pub returns-in-NoSheet : goal.returns-in-NoSheet
+unfolding design_at
+returns-in-NoSheet c =
+    let read = c.before.before.before in
+    ap (λ (r : SheetRead). by_reading r read.args.level) (sym c.in-NoSheet.is ∙ read.read-reading.ensures)

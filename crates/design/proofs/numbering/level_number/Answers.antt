@@ -1,0 +1,12 @@
+-- `design::numbering::level_number` meets its contract: the difference fits, so the machine's is that of ℤ.
+use native.Mathlib.Omega.{arith}
+use mir.Syntax.{w32}
+use Rattle.datum.proofs.Signs.{level_fits, level_back}
+use borrow.Author.Rules.{rules}
+use Rattle.design.proofs.numbering.level_number.Goals as goal
+
+pub overflow_sub-result : goal.overflow_sub-result
+overflow_sub-result c = level_fits w32 c.args.level.0 (omega arith)
+
+pub returns : goal.returns
+returns c = level_back w32 c.args.level.0 (omega arith)

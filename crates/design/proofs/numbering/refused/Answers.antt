@@ -1,0 +1,10 @@
+-- `design::numbering::refused` meets its contract: the number and the field are widened, and the rest are zeros.
+use mathlib.Core.Path.{refl}
+use borrow.Author.Rules.{rules}
+use Rattle.design.proofs.answers.Held.{held}
+use Rattle.design.proofs.numbering.refused.Goals as goal
+
+pub returns : goal.returns
+returns c =
+    let first = c.before in
+    held first.small_number.type-inv first.small_number.ensures (held c.small_number-2.type-inv c.small_number-2.ensures refl)

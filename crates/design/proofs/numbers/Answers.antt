@@ -1,0 +1,15 @@
+-- `design::numbers` meets its contract: case by case.
+use mathlib.Core.Path.{ap₂, ◌∙◌}
+use Rattle.design.specs.Numbers.{refused_numbers, numbers_of}
+use borrow.Author.Rules.{rules}
+use Rattle.design.proofs.numbers.Goals as goal
+
+pub returns-in-Answered : goal.returns-in-Answered
+unfolding numbers_of
+returns-in-Answered c = rw c.in-Answered.is c.answered.ensures
+
+pub returns-in-Refused : goal.returns-in-Refused
+unfolding numbers_of
+returns-in-Refused c =
+    let number = c.before.before in
+    rw number.in-Refused.is (c.refused.ensures ∙ ap₂ refused_numbers number.reason_number.ensures c.reason_field.ensures)

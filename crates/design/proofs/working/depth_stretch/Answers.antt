@@ -1,0 +1,6 @@
+-- `design::working::depth_stretch` meets its contract: the natural depth and the interval are those of the definition.
+use borrow.Author.Rules.{rules}
+use Rattle.design.proofs.working.depth_stretch.Goals as goal
+
+pub returns : goal.returns
+returns c = rw (c.interval_of-interval.ensures, c.natural_depth_lem.ensures)
