@@ -10,4 +10,4 @@ use mir.Facts.{to_z-of_z}
 
 -- one number more in front: z is what the machine holds, and v what it stands for
 pub held : {z v : ℤ} {row numbers : List ℤ} → mag z < 2 ^ 31 → z ≡ v → row ≡ numbers → to_z w32 (of_z w32 z) ∷ row ≡ v ∷ numbers
-held fits is rest = ap₂ ◌∷◌ (to_z-of_z (record { sfits = fits }) ∙ is) rest
+held fits is rest = ap₂ ◌∷◌ (to_z-of_z {w = w32} (record { sfits = fits }) ∙ is) rest

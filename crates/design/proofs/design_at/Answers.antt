@@ -8,12 +8,10 @@ use Rattle.design.proofs.design_at.Goals as goal
 pub returns-in-Good : goal.returns-in-Good
 unfolding design_at
 returns-in-Good c =
-    let read = c.before.before.before.before in
-    c.of_sheet_lem.ensures
-    ∙ ap (λ (r : SheetRead). by_reading r read.args.level) (sym c.in-Good.is ∙ read.read-reading.ensures)
+    c.of_sheet.ensures
+    ∙ ap (λ (r : SheetRead). by_reading r c.args.level) (sym c.in-Good.is ∙ c.read-reading.ensures)
 
 pub returns-in-NoSheet : goal.returns-in-NoSheet
 unfolding design_at
 returns-in-NoSheet c =
-    let read = c.before.before.before in
-    ap (λ (r : SheetRead). by_reading r read.args.level) (sym c.in-NoSheet.is ∙ read.read-reading.ensures)
+    ap (λ (r : SheetRead). by_reading r c.args.level) (sym c.in-NoSheet.is ∙ c.read-reading.ensures)

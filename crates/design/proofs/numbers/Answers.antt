@@ -11,5 +11,4 @@ returns-in-Answered c = rw c.in-Answered.is c.answered.ensures
 pub returns-in-Refused : goal.returns-in-Refused
 unfolding numbers_of
 returns-in-Refused c =
-    let number = c.before.before in
-    rw number.in-Refused.is (c.refused.ensures ∙ ap₂ refused_numbers number.reason_number.ensures c.reason_field.ensures)
+    rw c.in-Refused.is (c.refused.ensures ∙ ap₂ refused_numbers c.reason_number.ensures c.reason_field.ensures)

@@ -10,15 +10,12 @@ use Rattle.design.proofs.checks.at_level.Goals as goal
 
 pub past_bend-requires : goal.past_bend-requires
 past_bend-requires c =
-    subst (λ (b : Bend). widening_figure b < 2 ^ 31) c.in-Widening.is c.bend_of-bend.ensures.1
+    subst (λ (b : Bend). widening_figure b < 2 ^ 31) c.in-Widening.is c.bend_of-bend.ensures.small
 
 pub returns-in-Widening : goal.returns-in-Widening
 returns-in-Widening c =
-    let found = c.bend-1.given in
-    let bent = c.before.before.before.before in
-    by_bend_lem _ _ _ (Widening found.0.0) _ _ found.1 bent.lane_rule-lanes.ensures bent.bend_of-bend.ensures.0 c.past_bend_lem.ensures
+    by_bend_lem _ _ _ (Widening c.in-Widening.widening) _ _ c.in-Widening.is c.lane_rule-lanes.ensures c.bend_of-bend.ensures.value c.past_bend.ensures
 
 pub returns-in-TooTight : goal.returns-in-TooTight
 returns-in-TooTight c =
-    let bent = c.before.before in
-    by_bend_lem _ _ _ TooTight _ _ c.in-TooTight.is bent.lane_rule-lanes.ensures bent.bend_of-bend.ensures.0 refl
+    by_bend_lem _ _ _ TooTight _ _ c.in-TooTight.is c.lane_rule-lanes.ensures c.bend_of-bend.ensures.value refl

@@ -15,15 +15,13 @@ returns-then-sheet c =
 pub returns-in-Found : goal.returns-in-Found
 unfolding of_sheet
 returns-in-Found c =
-    let read = c.before.before.before.before in
-    let sheet = read.args.sheet in
-    rw (le-ltb sheet.length (3 * sheet.beam) read.if-sheet.false)
-    (c.at_level.ensures ∙ ap (by_level sheet) (sym c.in-Found.is ∙ read.level_for-level.ensures))
+    let sheet = c.args.sheet in
+    rw (le-ltb sheet.length (3 * sheet.beam) c.if-sheet.false)
+    (c.at_level.ensures ∙ ap (by_level sheet) (sym c.in-Found.is ∙ c.level_for-level.ensures))
 
 pub returns-in-NoLevel : goal.returns-in-NoLevel
 unfolding of_sheet
 returns-in-NoLevel c =
-    let read = c.before.before.before in
-    let sheet = read.args.sheet in
-    rw (le-ltb sheet.length (3 * sheet.beam) read.if-sheet.false)
-    (ap (by_level sheet) (sym c.in-NoLevel.is ∙ read.level_for-level.ensures))
+    let sheet = c.args.sheet in
+    rw (le-ltb sheet.length (3 * sheet.beam) c.if-sheet.false)
+    (ap (by_level sheet) (sym c.in-NoLevel.is ∙ c.level_for-level.ensures))

@@ -2,13 +2,12 @@
 use mathlib.Core.Path.{refl}
 use borrow.Author.Rules.{rules}
 use Rattle.width.specs.declared.EntriesFound.TheVariants.{Entered, NoEntry}
-use Rattle.design.proofs.answers.Ways.{by_entries}
+use Rattle.design.proofs.answers.Ways.{by_entries_lem}
 use Rattle.design.proofs.checks.past_bend.Goals as goal
 
 pub returns-in-Entered : goal.returns-in-Entered
 returns-in-Entered c =
-    let found = c.entries-1.given in
-    by_entries _ _ _ _ (Entered found.0.0) _ _ found.1 c.entries_of-entries.ensures c.past_entries_lem.ensures
+    by_entries_lem _ _ _ _ (Entered c.in-Entered.found) _ _ c.in-Entered.is c.entries_of-entries.ensures c.past_entries.ensures
 
 pub returns-in-NoEntry : goal.returns-in-NoEntry
-returns-in-NoEntry c = by_entries _ _ _ _ NoEntry _ _ c.in-NoEntry.is c.entries_of-entries.ensures refl
+returns-in-NoEntry c = by_entries_lem _ _ _ _ NoEntry _ _ c.in-NoEntry.is c.entries_of-entries.ensures refl

@@ -6,5 +6,4 @@ use Rattle.design.proofs.numbering.refused.Goals as goal
 
 pub returns : goal.returns
 returns c =
-    let first = c.before in
-    held first.small_number.type-inv first.small_number.ensures (held c.small_number-2.type-inv c.small_number-2.ensures refl)
+    held c.small_number.type_inv c.small_number.ensures (held c.small_number-2.type_inv c.small_number-2.ensures refl)

@@ -3,4 +3,4 @@ use borrow.Author.Rules.{rules}
 use Rattle.design.proofs.working.depth_stretch.Goals as goal
 
 pub returns : goal.returns
-returns c = rw (c.interval_of-interval.ensures, c.natural_depth_lem.ensures)
+returns c = rw (c.interval_of-interval.ensures, c.natural_depth-natural.ensures)

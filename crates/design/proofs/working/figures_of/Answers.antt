@@ -10,7 +10,6 @@ use Rattle.design.proofs.working.figures_of.Goals as goal
 pub returns : goal.returns
 unfolding figures_of
 returns c =
-    let classed = c.before.before in
-    let across : to_z w32 (of_z w32 c.signed.result) ≡ c.signed.result = to_z-of_z (record { sfits = c.signed.type-inv }) in
-    let aside : to_z w32 (of_z w32 c.signed-2.result) ≡ c.signed-2.result = to_z-of_z (record { sfits = c.signed-2.type-inv }) in
-    rw (across, aside, c.signed.ensures, c.signed-2.ensures, classed.classes_of-classes.ensures, classed.datum_depth_is.ensures)
+    let across : to_z w32 (of_z w32 c.signed.result) ≡ c.signed.result = to_z-of_z {w = w32} (record { sfits = c.signed.type_inv }) in
+    let aside : to_z w32 (of_z w32 c.signed-2.result) ≡ c.signed-2.result = to_z-of_z {w = w32} (record { sfits = c.signed-2.type_inv }) in
+    rw (across, aside, c.signed.ensures, c.signed-2.ensures, c.classes_of-classes.ensures, c.datum_depth-datum.ensures)

@@ -3,4 +3,4 @@ use borrow.Author.Rules.{rules}
 use Rattle.design.proofs.working.section_of.Goals as goal
 
 pub returns : goal.returns
-returns c = rw c.natural_depth_lem.ensures
+returns c = rw c.natural_depth-natural.ensures

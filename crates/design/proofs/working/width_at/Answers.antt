@@ -3,4 +3,8 @@ use borrow.Author.Rules.{rules}
 use Rattle.design.proofs.working.width_at.Goals as goal
 
 pub returns : goal.returns
-returns c = (rw (c.width_of_lem.ensures.0, c.width_stretch.ensures), c.width_of_lem.ensures.1)
+returns c =
+    record {
+      value = rw (c.width_of.ensures.value, c.width_stretch.ensures);
+      small = c.width_of.ensures.small;
+    }
