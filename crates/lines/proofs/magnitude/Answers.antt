@@ -22,16 +22,16 @@ below_zero : (c : Then-number-lt0) → Flipped (read c.before)
 below_zero c = flip (read c.before) c.if-number-lt0.true (read_fits c.before)
 
 pub overflow_sub-result : goal.overflow_sub-result
-overflow_sub-result c = (below_zero (goal.at.overflow_sub-result c).Then-number-lt0).ranges
+overflow_sub-result c = (below_zero (goal.at.overflow_sub-result c).Then-number-lt0).fits
 
 pub overflow_cast-result : goal.overflow_cast-result
-overflow_cast-result c = rw (to_z-of_z (below_zero (goal.at.overflow_cast-result c).Then-number-lt0).ranges) ((below_zero (goal.at.overflow_cast-result c).Then-number-lt0).sign, omega (arith, (below_zero (goal.at.overflow_cast-result c).Then-number-lt0).size))
+overflow_cast-result c = rw (to_z-of_z (below_zero (goal.at.overflow_cast-result c).Then-number-lt0).fits) ((below_zero (goal.at.overflow_cast-result c).Then-number-lt0).sign, omega (arith, (below_zero (goal.at.overflow_cast-result c).Then-number-lt0).size))
 
 pub overflow_add-result : goal.overflow_add-result
-overflow_add-result c = rw (to_z-of_z (below_zero (goal.at.overflow_add-result c).Then-number-lt0).ranges) (omega (arith, (below_zero (goal.at.overflow_add-result c).Then-number-lt0).size))
+overflow_add-result c = rw (to_z-of_z (below_zero (goal.at.overflow_add-result c).Then-number-lt0).fits) (omega (arith, (below_zero (goal.at.overflow_add-result c).Then-number-lt0).size))
 
 pub returns-then-number-lt0 : goal.returns-then-number-lt0
-returns-then-number-lt0 c = rw (to_z-of_z (below_zero (goal.at.returns-then-number-lt0 c).Then-number-lt0).ranges) ((below_zero (goal.at.returns-then-number-lt0 c).Then-number-lt0).one_less ∙ ap nat_abs (to_z-of_z c.ranges.number))
+returns-then-number-lt0 c = rw (to_z-of_z (below_zero (goal.at.returns-then-number-lt0 c).Then-number-lt0).fits) ((below_zero (goal.at.returns-then-number-lt0 c).Then-number-lt0).one_less ∙ ap nat_abs (to_z-of_z c.ranges.number))
 
 pub overflow_cast-result-2 : goal.overflow_cast-result-2
 overflow_cast-result-2 c = (no_sign (read c.before) c.if-number-lt0.false, Fits-nat_abs {w = w32} {w' = w64} tt (read_fits c.before))

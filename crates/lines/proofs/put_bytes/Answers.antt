@@ -5,10 +5,10 @@ use Rattle.lines.proofs.put_bytes.Goals as goal
 
 pub returns : goal.returns
 returns c =
-    fitting _ _ _ _ c.fits2.ensures c.if-not-fits.false c.copy_bytes.ensures
+    fitting _ _ _ _ c.fits.ensures c.if-not-fits.false c.copy_bytes.ensures
 
 pub returns-then-not-fits : goal.returns-then-not-fits
-returns-then-not-fits c = unfit _ _ _ _ c.fits2.ensures c.if-not-fits.true
+returns-then-not-fits c = unfit _ _ _ _ c.fits.ensures c.if-not-fits.true
 
 pub copy_bytes-requires : goal.copy_bytes-requires
-copy_bytes-requires c = room _ _ _ c.fits2.ensures c.if-not-fits.false
+copy_bytes-requires c = room _ _ _ c.fits.ensures c.if-not-fits.false

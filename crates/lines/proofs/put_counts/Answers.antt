@@ -18,7 +18,7 @@ loop-i-preserved c =
     let counts = c.args.counts.now in
     let l = c.loop-i in (
       omega arith,
-      omega (arith, length-set l.buffer-1 l.end 32),
+      omega (arith, length-set l.buffer l.end 32),
       omega arith,
       next_word count_text counts l.i 0 l.invariant.3 c.put_count-end.ensures.0 (omega arith) (omega arith),
     )

@@ -6,10 +6,10 @@ use Rattle.lines.proofs.put_decimal.Goals as goal
 
 pub returns : goal.returns
 returns c =
-    fitting count_bytes _ _ _ c.fits2.ensures c.if-not-fits.false c.put_count.ensures.0
+    fitting count_bytes _ _ _ c.fits.ensures c.if-not-fits.false c.put_count.ensures.0
 
 pub returns-then-not-fits : goal.returns-then-not-fits
-returns-then-not-fits c = unfit count_bytes _ _ _ c.fits2.ensures c.if-not-fits.true
+returns-then-not-fits c = unfit count_bytes _ _ _ c.fits.ensures c.if-not-fits.true
 
 pub put_count-requires : goal.put_count-requires
-put_count-requires c = room count_bytes _ _ c.fits2.ensures c.if-not-fits.false
+put_count-requires c = room count_bytes _ _ c.fits.ensures c.if-not-fits.false

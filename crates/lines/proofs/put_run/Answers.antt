@@ -19,26 +19,26 @@ pub loop-i-init : goal.loop-i-init
 loop-i-init c =
     let a = c.args in
     let none : a.from - a.from ≡ 0 = omega arith in
-    (omega arith, c.requires.0, search rules, refl, omega arith, rw none (no_words number_text (drop a.from a.t1)))
+    (omega arith, c.requires.0, search rules, refl, omega arith, rw none (no_words number_text (drop a.from a.numbers)))
 
 pub loop-i-preserved : goal.loop-i-preserved
 loop-i-preserved c =
     let a = c.args in
     let l = c.loop-i in
     let p = c.put_number-end in
-    let number = get_or a.t1 l.i (pos 0) in
-    let read_back : to_z w32 (of_z w32 number) ≡ number = to_z-of_z (record { sfits = c.put_number-arg-1.given }) in
+    let number = get_or a.numbers l.i (pos 0) in
+    let read_back : to_z w32 (of_z w32 number) ≡ number = to_z-of_z {w = w32} (record { sfits = c.put_number-arg-1.given }) in
     let place : a.from + (l.i - a.from) ≡ l.i = omega arith in
-    let same : get_or (drop a.from a.t1) (l.i - a.from) (pos 0) ≡ number = rw (get_or-drop, place) in
+    let same : get_or (drop a.from a.numbers) (l.i - a.from) (pos 0) ≡ number = rw (get_or-drop, place) in
     let next : l.i + 1 - a.from ≡ l.i - a.from + 1 = omega arith in (
       omega arith,
       omega arith,
       l.invariant.2,
-      omega (arith, length-set l.buffer-1 l.end 32),
+      omega (arith, length-set l.buffer l.end 32),
       omega arith,
       rw next
-          (next_word number_text (drop a.from a.t1) (l.i - a.from) (pos 0) l.invariant.5 (rw same (rw read_back at p.ensures.0))
-          (omega (arith, length-drop a.from a.t1)) (omega arith)),
+          (next_word number_text (drop a.from a.numbers) (l.i - a.from) (pos 0) l.invariant.5 (rw same (rw read_back at p.ensures.0))
+          (omega (arith, length-drop a.from a.numbers)) (omega arith)),
     )
 
 pub returns : goal.returns

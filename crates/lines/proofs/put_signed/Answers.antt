@@ -8,10 +8,10 @@ use Rattle.lines.proofs.put_signed.Goals as goal
 pub returns : goal.returns
 returns c =
     let put = rw (to_z-of_z c.ranges.number) at c.put_number.ensures.0 in
-    fitting number_bytes _ _ _ c.fits2.ensures c.if-not-fits.false put
+    fitting number_bytes _ _ _ c.fits.ensures c.if-not-fits.false put
 
 pub returns-then-not-fits : goal.returns-then-not-fits
-returns-then-not-fits c = unfit number_bytes _ _ _ c.fits2.ensures c.if-not-fits.true
+returns-then-not-fits c = unfit number_bytes _ _ _ c.fits.ensures c.if-not-fits.true
 
 pub put_number-requires : goal.put_number-requires
-put_number-requires c = room number_bytes _ _ c.fits2.ensures c.if-not-fits.false
+put_number-requires c = room number_bytes _ _ c.fits.ensures c.if-not-fits.false

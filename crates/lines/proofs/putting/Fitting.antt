@@ -1,7 +1,7 @@
 -- Whether there is room for a text, what its putting comes to either way, and what it keeps: the bytes before it and after it, and the
 -- whole buffer where there is less. By the two cases, for any room.
 use mathlib.Core.Path.{◌≡◌, refl, sym, ◌∙◌}
-use mathlib.Core.Bool.{Bool, true, false, not}
+use mathlib.Core.Bool.{Bool, true, false}
 use mathlib.Core.List.{List, ◌++◌}
 use mathlib.Core.Logic.{◌↔◌}
 use Prim.Native.Nat.{ℕ, ◌+◌, ◌-◌, ◌≤◌, ◌<◌}
@@ -21,8 +21,8 @@ fits_from size at bytes h =
     (λ l. rw (le-leb (at + size) bytes l, le-leb at (bytes - size) (omega arith)))
 
 -- a call that asks whether there is less, and goes on, has room
-pub room : (size at bytes : ℕ) {fits : Bool} → fits ≡ leb (at + size) bytes → not fits ≡ false → at + size ≤ bytes
-room size at bytes {fits} e t = leb-true (at + size) bytes (sym e ∙ not-false fits t)
+pub room : (size at bytes : ℕ) {fits : Bool} → fits ≡ leb (at + size) bytes → fits ≡ true → at + size ≤ bytes
+room size at bytes {fits} e t = leb-true (at + size) bytes (sym e ∙ t)
 
 module _ (size : ℕ) (line : List ℕ) (at : ℕ) (buffer : List ℕ) where
   -- what a call answers, and what the buffer then holds
@@ -30,13 +30,13 @@ module _ (size : ℕ) (line : List ℕ) (at : ℕ) (buffer : List ℕ) where
   Answered end later = (end ≡ place_within size line at buffer) × (later ≡ buffer_within size line at buffer)
 
   module _ {fits : Bool} (e : fits ≡ leb (at + size) (length buffer)) where
-    pub unfit : not fits ≡ true → Answered at buffer
+    pub unfit : fits ≡ false → Answered at buffer
     unfolding place_within buffer_within
-    unfit t = rw (← e, not-true fits t) (refl, refl)
+    unfit t = rw (← e, t) (refl, refl)
 
-    pub fitting : not fits ≡ false → {end : ℕ} {later : List ℕ} → Put buffer at line later end → Answered end later
+    pub fitting : fits ≡ true → {end : ℕ} {later : List ℕ} → Put buffer at line later end → Answered end later
     unfolding place_within buffer_within
-    fitting t p = rw (← e, not-false fits t) (p.after, p.holds)
+    fitting t p = rw (← e, t) (p.after, p.holds)
 
   -- the same of a call that asks nothing, where there is room
   pub put_within : {end : ℕ} {later : List ℕ} → at + size ≤ length buffer → Answered end later → Put buffer at line later end
