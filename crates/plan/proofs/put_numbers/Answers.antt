@@ -23,7 +23,7 @@ loop-i-preserved c =
     let l = c.loop-i in
     let word = c.word_of-word in
     let z = get_or c.args.numbers l.i (pos 0) in
-    let read : to_z w32 (of_z w32 z) ≡ z = to_z-of_z (record { sfits = given }) in
+    let read : to_z w32 (of_z w32 z) ≡ z = to_z-of_z {w = w32} (record { sfits = c.number-1.given }) in
     let e = c.put_word.ensures in
     let step = one_more c.args.numbers c.args.place.now l.place l.i (omega arith) (omega arith) l.invariant.1 l.invariant.2 in
     (omega arith, rw e (length-sets l.place (4 * l.i) (word_bytes _) ∙ l.invariant.1), e ∙ rw (word.ensures, read) step, l.invariant.3)

@@ -1,0 +1,24 @@
+-- `typed::printing::put_lines` meets its contract: a way out for words, one for a level and one for the other kinds.
+use native.Mathlib.Omega.{arith}
+use borrow.Author.Rules.{rules}
+use Rattle.lines.proofs.putting.Placing.{put_on}
+use Rattle.typed.proofs.printing.Expected.{lines_by_lem, lines_span}
+use Rattle.typed.proofs.printing.Matched.{not_words, not_level}
+use Rattle.typed.proofs.printing.put_lines.Goals as goal
+
+pub returns-in-Words : goal.returns-in-Words
+returns-in-Words c =
+    let a = c.args in
+    rw (lines_by_lem a.row a.values c.in-Words.is) (put_on c.put_row-first.ensures.0 c.put_words.ensures (omega arith))
+
+pub put_span-requires-2 : goal.put_span-requires-2
+put_span-requires-2 c =
+    let a = c.args in
+    rw (lines_by_lem a.row a.values c.in-Level.is)
+    (put_on (put_on c.put_row-record.ensures.0 c.put_bytes-given.ensures (omega arith)) c.put_span.ensures (omega arith))
+
+returns_3 : tie.Need-returns-3
+returns_3 c =
+    let a = c.args in
+    rw (lines_span a.row a.values (not_words a.row.1 c.in-Words.keys2) (not_level a.row.1 c.in-Level.keys2))
+    c.put_span-2.ensures

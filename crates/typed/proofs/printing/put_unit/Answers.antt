@@ -1,0 +1,26 @@
+-- `typed::printing::put_unit` meets its contract: nothing behind a level off the record, else the row's unit.
+use mathlib.Core.Path.{◌≡◌}
+use mathlib.Core.Logic.{⊎_elim}
+use native.Mathlib.Omega.{arith}
+use borrow.Author.Rules.{rules}
+use Rattle.lines.proofs.putting.Placing.{put_none}
+use Rattle.typed.specs.Lines.{unit_text, behind}
+use Rattle.typed.proofs.printing.Matched.{not_level}
+use Rattle.typed.proofs.printing.Units.{record_unit, given_unit, plain_unit}
+use Rattle.typed.proofs.printing.put_unit.Goals as goal
+
+pub returns-then-figure-eq0 : goal.returns-then-figure-eq0
+returns-then-figure-eq0 c =
+    let a = c.args in
+    (rw (record_unit a.row a.figure c.in-Level.is c.if-figure-eq0.true) put_none, omega arith)
+
+pub returns : goal.returns
+returns c =
+    let a = c.args in
+    let p = c.put_behind.ensures in
+    let e : unit_text a.row a.figure ≡ behind a.row.2 =
+    ⊎_elim
+    (λ w. given_unit a.row a.figure w.2.left)
+    (λ w. plain_unit a.row a.figure (not_level a.row.1 w.keys2))
+    c.in-Level.branch in
+    (rw e p.0, p.1)

@@ -1,0 +1,36 @@
+-- `typed::printing::put_words` meets its contract. The loop's invariant: the lines of the words passed stand, each behind ` | `.
+-- The measure is the words that are left.
+use Prim.Native.Nat.{◌+◌, ◌*◌, ◌-◌, ◌≤◌}
+use mathlib.Core.Path.{◌≡◌, refl}
+use native.Mathlib.Omega.{arith}
+use lib.ListN.{length}
+use Rattle.typed.proofs.printing.Words.{Worded, none_worded, one_worded, space_worded, all_worded}
+use Rattle.typed.proofs.printing.put_words.Goals as goal
+
+pub loop-j-init : goal.loop-j-init
+loop-j-init c = (omega arith, omega arith, refl, omega arith, none_worded c.args.row)
+
+pub returns-then-words-j-eq-SPACE : goal.returns-then-words-j-eq-SPACE
+returns-then-words-j-eq-SPACE c = space_worded c.loop-j.invariant.4 (omega arith) c.if-words-j-eq-SPACE.true
+
+pub shape_of-buffer : goal.shape_of-buffer
+shape_of-buffer c =
+    let l = c.loop-j in (
+      omega arith,
+      omega arith,
+      omega arith,
+      omega arith,
+      one_worded l.invariant.4 (omega arith) c.if-words-j-eq-SPACE.false c.put_bytes-end.ensures c.put_row-end.ensures.0 (omega arith) (omega arith),
+    )
+
+returns_2 : tie.Need-returns-2 invariant_loop decreases_loop
+returns_2 c = all_worded c.loop-j.invariant.4 (omega arith)
+
+pub shape_of-buffer-then-words-j-eq-SPACE : goal.shape_of-buffer-then-words-j-eq-SPACE
+shape_of-buffer-then-words-j-eq-SPACE c = c.loop-j.invariant.2
+
+pub put_bytes-end-requires : goal.put_bytes-end-requires
+put_bytes-end-requires c = refl
+
+pub returns : goal.returns
+returns c = c.loop-j.invariant.2

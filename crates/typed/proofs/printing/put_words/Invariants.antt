@@ -1,0 +1,16 @@
+-- `typed::printing::put_words` meets its contract. The loop's invariant: the lines of the words passed stand, each behind ` | `.
+-- The measure is the words that are left.
+use Prim.Native.Nat.{◌+◌, ◌*◌, ◌-◌, ◌≤◌}
+use mathlib.Core.Path.{◌≡◌, refl}
+use native.Mathlib.Omega.{arith}
+use lib.ListN.{length}
+use Rattle.typed.proofs.printing.Words.{Worded, none_worded, one_worded, space_worded, all_worded}
+use Rattle.typed.proofs.printing.put_words.Given as goal
+
+-- `typed::printing::put_words` meets its contract. The loop's invariant: the lines of the words passed stand, each behind ` | `.
+-- The measure is the words that are left.
+abbrev pub invariant-loop-j : goal.invariant-loop-j
+invariant-loop-j l = (1 ≤ j) × (j ≤ 6) × (length l.end ≡ length l.initial.buffer) × (l.j + 83 * (6 - j) ≤ l.at + 415) × Worded l.row l.initial.buffer l.at j l.end l.j
+
+abbrev pub decreases-loop-j : goal.decreases-loop-j
+decreases-loop-j l = 6 - j
