@@ -121,6 +121,7 @@ fn against_of(parts: u64, cut: u16, knots: u8) -> SpeedCheck
 }
 
 // The check of a ship's speed in a section; a slope of 0 asks for none.
+#[tactic(auto, using(crate::proofs::Ways::unasked))]
 pub fn check_speed(section: Section, knots: u8) -> SpeedCheck
     ensures { result ≡ check_of section knots }
 {

@@ -17,6 +17,7 @@ pub fn times_of(weight: u64, speed: Speed) -> Speed
 }
 
 // The part of a speed that has a weight; one without weight is not asked for.
+#[tactic(auto, using(crate::proofs::lines::Weighing::part_none, crate::proofs::lines::Weighing::part_some))]
 fn part_of(weight: u64, speed: Speed) -> Speed
     requires { (weight < 2 ^ 16) × (parts_of speed < 2 ^ 29) }
     ensures { result ≡ part weight speed }

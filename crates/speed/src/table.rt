@@ -55,6 +55,7 @@ pub fn full_row(width: u32, slope: u32) -> [u8; 13]
 }
 
 // What stands in the table, as a speed: a dash is none.
+#[tactic(auto, using(crate::proofs::table::Grid::at_dash, crate::proofs::table::Grid::at_figure))]
 fn entered(figure: u8) -> Speed
     ensures { (result ≡ entry figure) × (parts_of result ≤ 255) }
 {

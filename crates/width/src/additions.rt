@@ -29,6 +29,7 @@ pub fn lane_item(handling: u8) -> u8
     18
 }
 
+#[tactic(auto, unfolding(crate::specs::Additions::wind_item))]
 pub fn wind_item(band: SpeedBand, wind: u8) -> u8
     ensures { result ≡ wind_item band wind }
 {
@@ -128,6 +129,7 @@ pub fn passing_item(water: Water, band: SpeedBand) -> u8
     watered(water, paced(band, 16, 12), paced(band, 14, 10))
 }
 
+#[tactic(auto, unfolding(crate::specs::Additions::traffic_item))]
 pub fn traffic_item(water: Water, ships: u16) -> u8
     ensures { result ≡ traffic_item water ships }
 {

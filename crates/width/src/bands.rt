@@ -35,6 +35,7 @@ fn open_only(water: Water, outside: u8) -> Entry
 }
 
 // (c) Cross current, in tenths of a knot: negligible, weak, moderate, strong.
+#[tactic(auto, unfolding(crate::specs::Bands::cross_entry))]
 pub fn cross_entry(water: Water, band: SpeedBand, cross: CrossCurrent) -> Entry
     ensures { result ≡ cross_entry water band cross }
 {
@@ -61,6 +62,7 @@ pub fn cross_entry(water: Water, band: SpeedBand, cross: CrossCurrent) -> Entry
 }
 
 // (d) Along current, in tenths of a knot: weak, moderate, strong; each line has one figure in both waters.
+#[tactic(auto, unfolding(crate::specs::Bands::along_item))]
 pub fn along_item(band: SpeedBand, along: AlongCurrent) -> u8
     ensures { result ≡ along_item band along }
 {
@@ -81,6 +83,7 @@ pub fn along_item(band: SpeedBand, along: AlongCurrent) -> u8
 }
 
 // (e) Wave height, in cm: to 1 m, to 3 m, over 3 m.
+#[tactic(auto, unfolding(crate::specs::Bands::wave_entry))]
 pub fn wave_entry(water: Water, band: SpeedBand, wave: u16) -> Entry
     ensures { result ≡ wave_entry water band wave }
 {

@@ -6,6 +6,7 @@ ghost use Rattle.width.specs.Bends.{least_lengths, widening_of, LongEnough};
 use lanes::Lanes;
 
 // The least radius of a bend, in lengths of the ship.
+#[tactic(auto, unfolding(crate::specs::Bends::least_lengths))]
 pub fn least_lengths(turn: u8) -> u32
     ensures { result ≡ least_lengths turn }
 {
