@@ -7,7 +7,7 @@ use Rattle.typed.specs.Lines.{blank_row}
 use Rattle.typed.proofs.printing.put_blank_row.Goals as goal
 
 pub shape_of-buffer : goal.shape_of-buffer
-shape_of-buffer c = let g = c.put_name-first in omega (arith, length-set g.new.1.0 g.result 95)
+shape_of-buffer c = let g = c.put_name-first in omega (arith, length-set g.new.buffer g.result 95)
 
 pub returns : goal.returns
 unfolding blank_row

@@ -11,14 +11,14 @@ returns-in-Words c =
     let a = c.args in
     rw (lines_by_lem a.row a.values c.in-Words.is) (put_on c.put_row-first.ensures.0 c.put_words.ensures (omega arith))
 
-pub put_span-requires-2 : goal.put_span-requires-2
-put_span-requires-2 c =
+pub returns-in-Level : goal.returns-in-Level
+returns-in-Level c =
     let a = c.args in
     rw (lines_by_lem a.row a.values c.in-Level.is)
     (put_on (put_on c.put_row-record.ensures.0 c.put_bytes-given.ensures (omega arith)) c.put_span.ensures (omega arith))
 
-returns_3 : tie.Need-returns-3
-returns_3 c =
+pub returns : goal.returns
+returns c =
     let a = c.args in
-    rw (lines_span a.row a.values (not_words a.row.1 c.in-Words.keys2) (not_level a.row.1 c.in-Level.keys2))
+    rw (lines_span a.row a.values c.in_default.not-Words c.in_default-kind.not-Level)
     c.put_span-2.ensures

@@ -11,14 +11,14 @@ use Rattle.typed.proofs.printing.put_name.Goals as goal
 pub returns : goal.returns
 unfolding name_text
 returns c =
-    let sized : length c.args.row.0 ≡ 16 = simp length-map at c.well-formed.0.1.1.0.1.0.1 in
+    let sized : length c.args.row.0 ≡ 16 = c.well_formed.0.1.1.0.1.0.1 in
     (then_byte space c.put_token-end.ensures.0 (omega arith), omega arith)
 
 pub put_token-end-requires : goal.put_token-end-requires
-put_token-end-requires c = omega (arith, simp length-map at c.well-formed.0.1.1.0.1.0.1)
+put_token-end-requires c = omega (arith, c.well_formed.0.1.1.0.1.0.1)
 
 pub bounds-buffer-end : goal.bounds-buffer-end
-bounds-buffer-end c = omega (arith, simp length-map at c.well-formed.0.1.1.0.1.0.1)
+bounds-buffer-end c = omega (arith, c.well_formed.0.1.1.0.1.0.1)
 
 pub overflow_add-result : goal.overflow_add-result
-overflow_add-result c = omega (arith, simp length-map at c.well-formed.0.1.1.0.1.0.1)
+overflow_add-result c = omega (arith, c.well_formed.0.1.1.0.1.0.1)

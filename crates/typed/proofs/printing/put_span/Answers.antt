@@ -5,7 +5,7 @@ use Rattle.lines.proofs.putting.Placing.{put_on}
 use Rattle.typed.specs.Lines.{span_text}
 use Rattle.typed.proofs.printing.put_span.Goals as goal
 
-returns : tie.Need-returns
+pub returns : goal.returns
 unfolding span_text
 returns c =
     let line = c.put_row-first.ensures.0 in

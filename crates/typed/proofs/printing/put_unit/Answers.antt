@@ -8,6 +8,7 @@ use Rattle.typed.specs.Lines.{unit_text, behind}
 use Rattle.typed.proofs.printing.Matched.{not_level}
 use Rattle.typed.proofs.printing.Units.{record_unit, given_unit, plain_unit}
 use Rattle.typed.proofs.printing.put_unit.Goals as goal
+use Rattle.typed.proofs.printing.put_unit.Goals.{in-Level+else-figure-eq0, in_default}
 
 pub returns-then-figure-eq0 : goal.returns-then-figure-eq0
 returns-then-figure-eq0 c =
@@ -19,8 +20,8 @@ returns c =
     let a = c.args in
     let p = c.put_behind.ensures in
     let e : unit_text a.row a.figure ≡ behind a.row.2 =
-    ⊎_elim
-    (λ w. given_unit a.row a.figure w.2.left)
-    (λ w. plain_unit a.row a.figure (not_level a.row.1 w.keys2))
-    c.in-Level.branch in
+    elim c.match-kind.branch [
+      in-Level+else-figure-eq0 w ↦ given_unit a.row a.figure w.if-figure-eq0.false
+      | in_default w ↦ plain_unit a.row a.figure w.in_default.not-Level
+    ] in
     (rw e p.0, p.1)

@@ -13,8 +13,8 @@ loop-j-init c = (omega arith, omega arith, refl, omega arith, none_worded c.args
 pub returns-then-words-j-eq-SPACE : goal.returns-then-words-j-eq-SPACE
 returns-then-words-j-eq-SPACE c = space_worded c.loop-j.invariant.4 (omega arith) c.if-words-j-eq-SPACE.true
 
-pub shape_of-buffer : goal.shape_of-buffer
-shape_of-buffer c =
+pub loop-j-preserved : goal.loop-j-preserved
+loop-j-preserved c =
     let l = c.loop-j in (
       omega arith,
       omega arith,
@@ -23,14 +23,5 @@ shape_of-buffer c =
       one_worded l.invariant.4 (omega arith) c.if-words-j-eq-SPACE.false c.put_bytes-end.ensures c.put_row-end.ensures.0 (omega arith) (omega arith),
     )
 
-returns_2 : tie.Need-returns-2 invariant_loop decreases_loop
-returns_2 c = all_worded c.loop-j.invariant.4 (omega arith)
-
-pub shape_of-buffer-then-words-j-eq-SPACE : goal.shape_of-buffer-then-words-j-eq-SPACE
-shape_of-buffer-then-words-j-eq-SPACE c = c.loop-j.invariant.2
-
-pub put_bytes-end-requires : goal.put_bytes-end-requires
-put_bytes-end-requires c = refl
-
 pub returns : goal.returns
-returns c = c.loop-j.invariant.2
+returns c = all_worded c.loop-j.invariant.4 (omega arith)

@@ -1,23 +1,19 @@
 -- `typed::reading::guess` meets its contract: each kind is asked as the definition asks it.
 use mathlib.Core.Path.{◌≡◌, refl, ◌∙◌}
-use mathlib.Core.List.{List, [], ◌∷◌}
+use mathlib.Core.List.{List}
+use mathlib.Core.Logic.{◌⊎◌, inl, inr}
 use Prim.Native.Nat.{ℕ}
 use borrow.Author.Rules.{rules}
-use denote.Enum.Declared.{tag_of}
-use types.Run.{OneOf, miss}
 use Rattle.typed.specs.Reading.{digits_read, guess_by, guessed}
 use Rattle.typed.specs.declared.Kind.{Kind}
 use Rattle.typed.specs.declared.Kind.TheVariants.{Whole, Tenths, Hundredths, Words, Level}
-use Rattle.typed.specs.contracts.Kind.{the_type}
 use Rattle.typed.proofs.reading.guess.Goals as goal
 
 -- the first three kinds have a number
-in_digits : (kind : Kind) (words bytes : List ℕ) → OneOf (0 ∷ 1 ∷ 2 ∷ []) (tag_of the_type kind) → digits_read 0 bytes ≡ guess_by kind words bytes
-in_digits Whole words bytes h = refl
-in_digits Tenths words bytes h = refl
-in_digits Hundredths words bytes h = refl
-in_digits Words words bytes h = absurd (miss (0 ∷ 1 ∷ 2 ∷ []) 3 tt h)
-in_digits Level words bytes h = absurd (miss (0 ∷ 1 ∷ 2 ∷ []) 4 tt h)
+in_digits : (kind : Kind) (words bytes : List ℕ) → (kind ≡ Whole) ⊎ ((kind ≡ Tenths) ⊎ (kind ≡ Hundredths)) → digits_read 0 bytes ≡ guess_by kind words bytes
+in_digits kind words bytes (inl e) = rw e refl
+in_digits kind words bytes (inr (inl e)) = rw e refl
+in_digits kind words bytes (inr (inr e)) = rw e refl
 
 pub returns-in-Words : goal.returns-in-Words
 unfolding guessed
@@ -31,4 +27,4 @@ pub returns-in-Whole : goal.returns-in-Whole
 unfolding guessed
 returns-in-Whole c =
     let row = c.args.row in
-    c.digits_read.ensures.0 ∙ in_digits row.1 row.3 _ c.in-Words.keys3
+    c.digits_read.ensures.0 ∙ in_digits row.1 row.3 _ c.in-Whole.is

@@ -5,13 +5,13 @@ use borrow.Author.Tests.{not-true, not-false}
 use Rattle.typed.specs.Reading.{level_guess}
 use Rattle.typed.proofs.reading.level_guess.Goals as goal
 
-pub front_stands-requires-2 : goal.front_stands-requires-2
+pub returns-then-not-front_stands : goal.returns-then-not-front_stands
 unfolding level_guess
-front_stands-requires-2 c = rw (sym c.front_stands.ensures ∙ c.if-not-front_stands.true)
+returns-then-not-front_stands c = rw (sym c.front_stands.ensures ∙ c.if-not-front_stands.true)
 
-pub overflow_add-result : goal.overflow_add-result
+pub returns-then-front_stands : goal.returns-then-front_stands
 unfolding level_guess
-overflow_add-result c =
+returns-then-front_stands c =
     rw (
       sym c.front_stands.ensures ∙ c.if-not-front_stands.false,
       sym c.front_stands-2.ensures ∙ c.if-front_stands.true,
@@ -19,9 +19,9 @@ overflow_add-result c =
     )
     c.below_zero.ensures
 
-returns_3 : tie.Need-returns-3
+pub returns : goal.returns
 unfolding level_guess
-returns_3 c =
+returns c =
     rw (
       sym c.front_stands.ensures ∙ c.if-not-front_stands.false,
       sym c.front_stands-2.ensures ∙ c.if-front_stands.false,

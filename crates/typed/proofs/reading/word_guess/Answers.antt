@@ -13,13 +13,13 @@ pub returns-then-word_stands : goal.returns-then-word_stands
 unfolding word_guess
 returns-then-word_stands c =
     let l = c.loop-j in
-    let here = sym c.word-Stands.ensures ∙ c.if-word_stands.true in
+    let here = sym c.word_stands.ensures ∙ c.if-word_stands.true in
     rw (first_is _ 6 l.j (record { within = omega arith; here = here; none_before = l.invariant.1 })) (omega arith)
 
 pub loop-j-preserved : goal.loop-j-preserved
 loop-j-preserved c =
     let l = c.loop-j in
-    (omega arith, below_more _ l.j l.invariant.1 (sym c.word-Stands.ensures ∙ c.if-word_stands.false))
+    (omega arith, below_more _ l.j l.invariant.1 (sym c.word_stands.ensures ∙ c.if-word_stands.false))
 
 pub returns : goal.returns
 unfolding word_guess

@@ -119,4 +119,4 @@ returns-in-27 c = rw c.in-27.is
 
 pub returns-in_default : goal.returns-in_default
 unfolding row_at rows flatten
-returns-in_default c = no_row _ (missed_past count _ c.in-0.rest)
+returns-in_default c = no_row _ (missed_past count _ c.in_default.in_default-own.rest)
