@@ -2,7 +2,7 @@
 -- The table's are tested by computing, the digits' are known.
 use mathlib.Core.Path.{◌≡◌, ap, ◌∙◌}
 use mathlib.Core.Bool.{Bool, true, false, ◌&&◌}
-use mathlib.Core.List.{List, [], ◌∷◌, ◌++◌, flatten}
+use mathlib.Core.List.{List, [], ◌∷◌, ◌++◌, map, flatten}
 use Prim.Native.Nat.{ℕ, zero, suc, ◌+◌, ◌-◌, ◌*◌, ◌/◌, ◌%◌, ◌^◌, ◌≤◌, ◌<◌}
 use native.Mathlib.Nat.{min-le_left}
 use native.Mathlib.Omega.{arith}
@@ -18,12 +18,13 @@ use Rattle.lines.specs.Lines.{space}
 use Rattle.lines.proofs.Promises.{count_fits}
 use Rattle.lines.proofs.decimals.Digits.{below_or}
 use Rattle.lines.proofs.decimals.Texts.{DigitByte, count_bytes}
-use Rattle.sheet.specs.Fields.{fields, field_at, least, greatest, range_of}
 use Rattle.typed.specs.Rows.{bytes_of, count, rows, row_at, values_of}
-use Rattle.typed.specs.Lines.{line_bytes, expected_bytes, token, point, tenths_text, hundredths_text, level_zero, level_text, word_text, figure_by, figure_text, behind, unit_by, unit_text, name_text, front_text, row_text, line_text, blank_row, blank_text, words_from, span_text, lines_text, expected_text}
+use Rattle.typed.specs.Lines.{line_bytes, expected_bytes, token, point, tenths_text, hundredths_text, level_zero, level_text, word_text, figure_by, figure_text, behind, unit_by, unit_text, name_text, front_text, row_text, line_text, blank_row, blank_text, span_text, lines_text, expected_text}
 use Rattle.typed.specs.declared.Kind.{Kind}
 use Rattle.typed.specs.declared.Kind.TheVariants.{Whole, Tenths, Hundredths, Words, Level}
 use Rattle.typed.proofs.meaning.Names.{rest, line_parts}
+use Rattle.typed.proofs.meaning.Sample.{expected_texts_lem, blank_lines_lem}
+use Rattle.typed.proofs.meaning.Starred.{texts_from, in_each_row, expected_texts, blank_lines}
 use Rattle.typed.proofs.table.Values.{no_row, past_rows}
 
 -- a space, a sign, a digit or a letter
@@ -259,14 +260,42 @@ line_most i n h l =
 pub line_fits : (i n : ℕ) → i < count → n < 2 ^ 32 → length (line_text i n) ≤ line_bytes
 line_fits i n h l = omega (arith, line_most i n h (omega arith))
 
--- the same of what is expected in a row and of its line in the empty form, by computing; the rows past the last are all alike
-form_row : ℕ → Bool
-form_row i =
-    (plain (expected_text i) && (length (expected_text i) ≤ᵇ expected_bytes)) && (plain (blank_text i) && (length (blank_text i) ≤ᵇ line_bytes))
+-- The same of what is expected in a row and of its line in the empty form: computed over the texts that the rows have; the rows past
+-- the last are all alike.
+form_of : List ℕ → List ℕ → Bool
+form_of expected blank = (plain expected && (length expected ≤ᵇ expected_bytes)) && (plain blank && (length blank ≤ᵇ line_bytes))
 
-form_test : T (every (count + 1) form_row)
-unfolding form_row plain blank_text blank_row expected_text lines_text span_text words_from values_of range_of least greatest field_at fields row_text front_text name_text figure_text unit_text behind token count_text digits digits_within tenths_text hundredths_text level_text word_text row_at rows flatten
+form_row : ℕ → Bool
+form_row i = form_of (expected_text i) (blank_text i)
+
+form_listed : ℕ → Bool
+form_listed i = form_of (get_or (map bytes_of expected_texts) i []) (get_or (map bytes_of blank_lines) i [])
+
+form_test : T (every count form_listed)
+unfolding form_listed form_of plain
 form_test = tt
+
+text_at : (text : ℕ → List ℕ) (i n k : ℕ) → k < n → text (i + k) ≡ get_or (texts_from text i n) k []
+text_at text i zero k h = absurd (omega arith)
+text_at text i (suc n) zero h = let e : i + 0 ≡ i = omega arith in rw e
+text_at text i (suc n) (suc k) h =
+    let e : i + suc k ≡ suc i + k = omega arith in
+    rw e (text_at text (suc i) n k (omega arith))
+
+in_row : (text : ℕ → List ℕ) (texts : List (List ℕ)) (i : ℕ) → in_each_row text ≡ texts → i < count → text i ≡ get_or texts i []
+in_row text texts i e h =
+    let z : i ≡ 0 + i = omega arith in
+    ap text z ∙ text_at text 0 count i h ∙ ap (λ (l : List (List ℕ)). get_or l i []) e
+
+form_within : (i : ℕ) → i < count → T (form_row i)
+unfolding form_row form_listed
+form_within i h =
+    rw (in_row expected_text (map bytes_of expected_texts) i expected_texts_lem h, in_row blank_text (map bytes_of blank_lines) i blank_lines_lem h)
+    (every_at count form_listed form_test i h)
+
+form_last : T (form_row count)
+unfolding form_row form_of plain blank_text blank_row expected_text lines_text span_text values_of row_text front_text name_text figure_text unit_text behind token count_text digits digits_within row_at rows flatten
+form_last = tt
 
 form_past : (i : ℕ) → count ≤ i → form_row i ≡ form_row count
 unfolding form_row expected_text blank_text
@@ -274,17 +303,14 @@ form_past i h = rw (← no_row i h, ← past_rows i h, ← no_row count (omega a
 
 module _ (i : ℕ) where
   form_tested : T (form_row i)
-  form_tested =
-      below_or i count
-      (λ h. every_at (count + 1) form_row form_test i (omega arith))
-      (λ h. rw (form_past i h) (every_at (count + 1) form_row form_test count (omega arith)))
+  form_tested = below_or i count (form_within i) (λ h. rw (form_past i h) form_last)
 
   expected_tested : T (plain (expected_text i) && (length (expected_text i) ≤ᵇ expected_bytes))
-  unfolding form_row
+  unfolding form_row form_of
   expected_tested = both_left (plain (expected_text i) && (length (expected_text i) ≤ᵇ expected_bytes)) _ form_tested
 
   blank_tested : T (plain (blank_text i) && (length (blank_text i) ≤ᵇ line_bytes))
-  unfolding form_row
+  unfolding form_row form_of
   blank_tested = both_right (plain (expected_text i) && (length (expected_text i) ≤ᵇ expected_bytes)) _ form_tested
 
   pub expected_plain : Each Plain (expected_text i)
