@@ -1,0 +1,13 @@
+-- `texts::showing::put_figures` meets its contract: figures that make a sheet are written, and others put nothing.
+use mathlib.Core.Path.{sym, ◌∙◌}
+use borrow.Author.Rules.{rules}
+use Rattle.texts.proofs.showing.Sheets.{nothing_put, sheet_put}
+use Rattle.texts.proofs.showing.put_figures.Goals as goal
+
+pub returns-in-Good : goal.returns-in-Good
+returns-in-Good c =
+    rw c.write.ensures.1 (sheet_put c.args.figures c.args.buffer.now c.args.at _ (search rules) c.requires (sym c.sheet_from-made.ensures ∙ e))
+
+pub returns-in-NoSheet : goal.returns-in-NoSheet
+returns-in-NoSheet c =
+    nothing_put c.args.figures c.args.buffer.now c.args.at _ (sym c.sheet_from-made.ensures ∙ c.in-NoSheet.is)

@@ -1,0 +1,12 @@
+-- `texts::showing::put_sheet` meets its contract: the word, the index, a newline, and what the bytes are read as.
+use native.Mathlib.Omega.{arith}
+use borrow.Author.Rules.{rules}
+use Rattle.lines.proofs.putting.Placing.{put_on}
+use Rattle.texts.specs.Shown.{shown_text}
+use Rattle.texts.proofs.showing.put_sheet.Goals as goal
+
+pub returns : goal.returns
+unfolding shown_text
+returns c =
+    let rows = rw c.read.ensures at c.put_read.ensures in
+    put_on (put_on (put_on c.put-first.ensures.0 c.put_count-end.ensures.0 (omega arith)) c.put-rows.ensures.0 (omega arith)) rows (omega arith)

@@ -1,0 +1,17 @@
+-- `texts::steps::field_of` meets its contract: each way out is a case of `field_of`.
+use borrow.Author.Rules.{rules}
+use borrow.Author.Tests.{lt-ltb, le-ltb}
+use Rattle.texts.specs.Steps.{field_of}
+use Rattle.texts.proofs.steps.field_of.Goals as goal
+
+pub returns-then-k-lt-LEVEL : goal.returns-then-k-lt-LEVEL
+unfolding field_of
+returns-then-k-lt-LEVEL c = rw (lt-ltb _ _ c.if-k-lt-LEVEL.true)
+
+pub returns-then-k-lt28 : goal.returns-then-k-lt28
+unfolding field_of
+returns-then-k-lt28 c = rw (le-ltb _ _ c.if-k-lt-LEVEL.false, lt-ltb _ _ c.if-k-lt28.true)
+
+pub returns : goal.returns
+unfolding field_of
+returns c = rw (le-ltb _ _ c.if-k-lt-LEVEL.false, le-ltb _ _ c.if-k-lt28.false)
