@@ -28,7 +28,7 @@ use Rattle.texts.specs.declared.Stage.{Stage}
 use Rattle.texts.specs.declared.Stage.TheVariants.{Between, InRow}
 use Rattle.texts.proofs.meaning.Filling.{RowCase, before_level, at_level, behind_level, row_case, filled, field_of_lem, Agree, stored_length, stored_before, stored_before_level, source_stored, level_stored, last_stored, bad_same, not_bad_fine, not_bad_within, level_within, first_none_bad}
 use Rattle.texts.proofs.meaning.Keeping.{Clear, sheets_from, sheets_of_text, faultless_clear}
-use Rattle.texts.proofs.meaning.Sound.{row_done, begin_step_lem, other_step}
+use Rattle.texts.proofs.meaning.Sound.{row_done, begin_step_lem, other_step_lem}
 
 -- no line of a row begins a sheet
 pub row_begins_none : (i n : ℕ) → i < count → begins_sheet (line_text i n) ≡ false
@@ -166,7 +166,7 @@ module _ (v : List ℕ) (fine : (j : ℕ) → j < field_count → bad_at v j ≡
       let later = stored figures k (row_figure v k) in
       let f : field_of k + 1 ≡ filled (k + 1) = field_of_lem k h in
       let good : bad_at later (field_of k) ≡ false = bad_same later v (field_of k) (λ j l. fills figures k h long past j (omega arith)) ∙ fine (field_of k) (omega arith) in
-      other_step (InRow k) figures (line_text k (row_figure v k)) (row_begins_none k (row_figure v k) h)
+      other_step_lem (InRow k) figures (line_text k (row_figure v k)) (row_begins_none k (row_figure v k) h)
       ∙ rw (line_says_figure k (row_figure v k) h (row_within k h), not_bad_fine later (field_of k) (omega arith) good)
 
   -- a sheet's lines from a row on

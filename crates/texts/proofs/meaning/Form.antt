@@ -20,7 +20,7 @@ use Rattle.texts.specs.Texts.{beginning}
 use Rattle.texts.specs.Typed.{kept_of, kept, Faultless, text_of, OneLine}
 use Rattle.texts.specs.declared.Stage.TheVariants.{Between, InRow}
 use Rattle.texts.proofs.meaning.Keeping.{Clear, faultless_clear}
-use Rattle.texts.proofs.meaning.Sound.{begin_step_lem, other_step}
+use Rattle.texts.proofs.meaning.Sound.{begin_step_lem, other_step_lem}
 use Rattle.texts.proofs.meaning.Writing.{lines_of_text, printed_line}
 
 -- the comment of a row, and the lines of some rows from one on
@@ -127,7 +127,7 @@ no_clear : (figures : List ℕ) (lines : List (List ℕ)) → Clear Between figu
 unfolding row_step
 no_clear figures lines clear =
     let behind_title : Clear (InRow 0) figures (blank_text 0 ∷ lines) = rw (begin_step_lem Between figures (bytes_of "sheet") title_begins) at clear.1 in
-    rw (other_step (InRow 0) figures (blank_text 0) row_begins_none, blank_says_none 0 (omega arith)) at behind_title.0
+    rw (other_step_lem (InRow 0) figures (blank_text 0) row_begins_none, blank_says_none 0 (omega arith)) at behind_title.0
 
 pub form_refused : Faultless form_text → ⊥
 form_refused none = no_clear beginning.figures (kept_of (form_lines 1 27)) (rw kept_form at ((faultless_clear form_text).0 none))

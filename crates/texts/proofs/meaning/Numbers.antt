@@ -32,7 +32,7 @@ use Rattle.texts.specs.declared.Event.TheVariants.{Nothing, Sheet, Fault}
 use Rattle.texts.specs.declared.LineFault.TheVariants.{NoName, Twice, Misplaced, NoFigure, NoUnit, OutOfRange, Disagrees}
 use Rattle.texts.specs.declared.Stage.TheVariants.{Between, InRow, Skipping}
 use Rattle.texts.proofs.meaning.Filling.{RowCase, before_level, at_level, behind_level, row_case, field_of_lem, stored_before_level, source_stored, level_stored, last_stored}
-use Rattle.texts.proofs.meaning.Sound.{begin_step_lem, other_step}
+use Rattle.texts.proofs.meaning.Sound.{begin_step_lem, other_step_lem}
 
 -- outside two values, as it is tested
 outside_test : (n low high : ℕ) → (((n <ᵇ low) || (high <ᵇ n)) ≡ true → (n < low) ⊎ (high < n)) × (((n <ᵇ low) || (high <ᵇ n)) ≡ false → (n < low) ⊎ (high < n) → ⊥)
@@ -261,7 +261,7 @@ module _ (figures : List ℕ) (k : ℕ) (line : List ℕ) (h : k < count) (long 
     where
       go : (b : Bool) → begins_sheet line ≡ b → Told telling (line_rows k figures line) (step_of (InRow k) figures line).event
       go true e = rw (begin_step_lem (InRow k) figures line e) (stop e (refl, tt))
-      go false e = rw (other_step (InRow k) figures line e) (past (λ p. never_both _ p e) row_told)
+      go false e = rw (other_step_lem (InRow k) figures line e) (past (λ p. never_both _ p e) row_told)
 
   -- in the place of a row: from 2 to 9
   pub number_exactly : Exactly (line_rows k figures line) (event_number (step_of (InRow k) figures line).event)
@@ -273,11 +273,11 @@ number_1_exactly figures line = go (begins_sheet line) refl
   where
     go : (b : Bool) → begins_sheet line ≡ b → (event_number (step_of Between figures line).event ≡ 1) ↔ (b ≡ false)
     go true e = rw (begin_step_lem Between figures line e) (λ p. never cc, λ p. never cc)
-    go false e = rw (other_step Between figures line e) (λ p. refl, λ p. refl)
+    go false e = rw (other_step_lem Between figures line e) (λ p. refl, λ p. refl)
 
 -- behind a fault a line that begins no sheet brings nothing
 pub skipped : (figures line : List ℕ) → begins_sheet line ≡ false → step_of Skipping figures line ≡ step Skipping figures Nothing
-skipped figures line e = other_step Skipping figures line e
+skipped figures line e = other_step_lem Skipping figures line e
 
 -- where a row was to stand a line brings no fault, or is turned away
 module _ (figures : List ℕ) (k : ℕ) (line : List ℕ) where
@@ -301,4 +301,4 @@ module _ (figures : List ℕ) (k : ℕ) (line : List ℕ) where
   pub refused_once : begins_sheet line ≡ false
       → (event_number (step_of (InRow k) figures line).event ≡ 0) ⊎ RefusedAt k (step_of (InRow k) figures line)
   unfolding row_step
-  refused_once e = rw (other_step (InRow k) figures line e) (row_way (entry_of k line))
+  refused_once e = rw (other_step_lem (InRow k) figures line e) (row_way (entry_of k line))

@@ -180,6 +180,7 @@ text_sizes text none = let s = sound_text text none in sizes text none s.0 s.1 s
 pub rows_member : (figures : List ℕ) (k m : ℕ) (line : List ℕ) → Memᴰ line (row_lines figures k m)
     → (i : ℕ) × (i < k + m) × (line ≡ line_text i (row_figure figures i))
 unfolding row_lines
+rows_member figures k zero line in_rest = elim in_rest [ ]
 rows_member figures k (suc m) line (Memᴰ.head e) = (k, omega arith, e)
 rows_member figures k (suc m) line (Memᴰ.tail in_rest) =
     let r = rows_member figures (k + 1) m line in_rest in (r.0, omega (arith, r.1), r.2)

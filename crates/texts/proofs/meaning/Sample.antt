@@ -1,7 +1,7 @@
 -- Case S typed: its text, and its bytes; and the message of a text with a fault, to the byte.
 use Prim.Native.String.{String}
 use mathlib.Core.Path.{◌≡◌, refl, ap, ◌∙◌}
-use mathlib.Core.List.{List, [], ◌∷◌, map, flatten, append-nil}
+use mathlib.Core.List.{List, [], ◌∷◌, ◌++◌, map, flatten, append-nil}
 use Prim.Native.Nat.{ℕ}
 use native.Mathlib.Omega.{arith}
 use Rattle.laws.specs.Each.{◌&◌}
@@ -15,6 +15,7 @@ use Rattle.typed.specs.Rows.{bytes_of, rows, row_at, values_of}
 use Rattle.typed.specs.Lines.{token, tenths_text, hundredths_text, level_text, word_text, figure_text, behind, unit_text, name_text, front_text, row_text, line_text, span_text, lines_text, expected_text}
 use Rattle.typed.specs.Reading.{stands, same, in_number, digit_on, digits_read, guessed, entry_on, entry_by, entry_of, below_zero, level_guess, word_stands, word_guess}
 use Rattle.typed.proofs.meaning.Starred.{lines_of_s}
+use Rattle.typed.proofs.meaning.Sample.{deadweight_expected}
 use Rattle.texts.specs.Cutting.{lines_of, bare, blank, passed_over, begins_sheet, next_number}
 use Rattle.texts.specs.Messages.{shown, quoted_text, stood_text, message_text}
 use Rattle.texts.specs.Shown.{row_figure, sheet_text}
@@ -71,11 +72,17 @@ bytes_s_lem =
     ∙ its_bytes (figures_of sheet_s) fine_s
     ∙ starred.1
 
--- a text of two lines, the second out of its range
+-- a text of two lines, the second out of its range: what was expected there is put in last, as its digits are found one at a time
+message_8_parts : messages_of (bytes_of "sheet\ndeadweight 0 t\n")
+    ≡ ((bytes_of "line 2: T8 outside its range: \"deadweight 0 t\"; expected: " ++ expected_text 0) ++ bytes_of "\n") ∷ []
+unfolding messages_of messages_in all_of all_in turn_on ended_at lines_of bare line_step passed_over blank step_of begins_sheet begin_step row_step accepted_in stored field_of next_number entry_of entry_by entry_on guessed digits_read in_number digit_on stands same front_text name_text figure_text unit_text behind token count_text digits digits_within row_text line_text row_at rows flatten message_text stood_text quoted_text shown least greatest field_at fields standing_of outside_at pair_bad
+message_8_parts = refl
+
 pub message_8 : messages_of (bytes_of "sheet\ndeadweight 0 t\n")
     ≡ bytes_of "line 2: T8 outside its range: \"deadweight 0 t\"; expected: deadweight 1 t .. deadweight 600000 t\n" ∷ []
-unfolding messages_of messages_in all_of all_in turn_on ended_at lines_of bare line_step passed_over blank step_of begins_sheet begin_step row_step accepted_in stored field_of next_number entry_of entry_by entry_on guessed digits_read in_number digit_on stands same front_text name_text figure_text unit_text behind token count_text digits digits_within row_text line_text row_at rows flatten message_text stood_text quoted_text shown expected_text lines_text span_text values_of range_of least greatest field_at fields standing_of outside_at pair_bad
-message_8 = refl
+message_8 =
+    message_8_parts
+    ∙ ap (λ (expected : List ℕ). ((bytes_of "line 2: T8 outside its range: \"deadweight 0 t\"; expected: " ++ expected) ++ bytes_of "\n") ∷ []) deadweight_expected
 
 -- the two of the definition: S up to a figure that is none, and without its last row, behind a comment
 abbrev pub text_no_figure : String

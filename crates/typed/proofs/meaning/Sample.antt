@@ -55,7 +55,7 @@ deadweight_parts = refl
 deadweight_greatest : row_text (row_at 0) 600000 ≡ bytes_of "deadweight 600000 t"
 deadweight_greatest = deadweight_parts ∙ ap (λ (s : List ℕ). (bytes_of "deadweight " ++ s) ++ bytes_of " t") count_600000
 
-deadweight_expected : expected_text 0 ≡ bytes_of "deadweight 1 t .. deadweight 600000 t"
+pub deadweight_expected : expected_text 0 ≡ bytes_of "deadweight 1 t .. deadweight 600000 t"
 unfolding expected_text lines_text span_text values_of range_of least greatest field_at fields row_at rows
 deadweight_expected =
     of_ends (row_text (row_at 0) 1) (row_text (row_at 0) 600000) (bytes_of "deadweight 1 t") (bytes_of "deadweight 600000 t")

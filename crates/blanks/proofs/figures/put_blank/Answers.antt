@@ -14,4 +14,4 @@ pub returns : goal.returns
 returns c =
     let a = c.args in
     let p = c.put_right.ensures in
-    (rw (at_the_right a.words.now a.width a.figure (not_word a.figure c.in-Word.keys2)) (rw (put_first c.put_figure-bytes.ensures.0) at p.0), p.1)
+    (rw (at_the_right a.words.now a.width a.figure c.in_default.not-Word) (rw (put_first c.put_figure-bytes.ensures.0) at p.0), p.1)

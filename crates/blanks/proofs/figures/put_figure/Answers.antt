@@ -16,7 +16,7 @@ returns-in-Count c =
 pub returns-in-Signed : goal.returns-in-Signed
 unfolding figure_text
 returns-in-Signed c =
-    let fit : SFits w32 c.in-Signed.number = record { sfits = c.known_told-in-Signed-1.given.0.1 } in
+    let fit : SFits w32 c.in-Signed.number = search rules in
     let p = rw (to_z-of_z fit) at c.put_signed.ensures in
     (rw c.in-Signed.is p.0, omega (arith, p.1))
 

@@ -13,10 +13,10 @@ returns-then-text-i c = (rw (past_text _ _ _ _ c.if-text-i.true) put_none, omega
 pub returns-then-used-ge-FIGURES : goal.returns-then-used-ge-FIGURES
 returns-then-used-ge-FIGURES c =
     let a = c.args in
-    (rw (past_figures _ _ a.t3 a.used (omega arith)) put_none, omega arith)
+    (rw (past_figures _ _ a.figures a.used (omega arith)) put_none, omega arith)
 
 pub returns : goal.returns
 returns c =
     let a = c.args in
     let p = c.put_blank.ensures in
-    (rw (next_figure a.words.now a.text.now (a.i + 1) a.t3 a.used (Count 0) (omega arith) (omega arith), ← c.width_of.ensures.0) p.0, omega arith)
+    (rw (next_figure a.words.now a.text.now (a.i + 1) a.figures a.used (Count 0) (omega arith) (omega arith), ← c.width_of.ensures.0) p.0, omega arith)

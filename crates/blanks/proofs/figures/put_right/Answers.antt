@@ -9,14 +9,14 @@ use Rattle.blanks.proofs.figures.put_right.Goals as goal
 
 pub slice_bounds-put-end : goal.slice_bounds-put-end
 slice_bounds-put-end c =
-    sym (length-take-le c.args.bytes c.args.t2 (omega arith))
+    sym (length-take-le c.args.bytes c.args.columns (omega arith))
 
 pub put-requires : goal.put-requires
 put-requires c =
-    omega (arith, length-take c.args.bytes c.args.t2)
+    omega (arith, length-take c.args.bytes c.args.columns)
 
 pub returns : goal.returns
 returns c =
     let a = c.args in
-    let p = right_put a.width a.bytes a.t2 (omega arith) (rw c.lacking.ensures at c.put_spaces-start.ensures.0) c.put.ensures.0 (omega arith) in
-    (p, omega (arith, length-take a.bytes a.t2))
+    let p = right_put a.width a.bytes a.columns (omega arith) (rw c.lacking.ensures at c.put_spaces-start.ensures.0) c.put.ensures.0 (omega arith) in
+    (p, omega (arith, length-take a.bytes a.columns))

@@ -15,8 +15,8 @@ use Rattle.texts.proofs.putting.Typed.{expected_stands}
 use Rattle.texts.proofs.messages.put_expected.Goals as goal
 
 -- the faults but the first ask for their row
-of_row : (fault : LineFault) (row : ℕ) → OneOf (1 ∷ 2 ∷ 3 ∷ 4 ∷ 5 ∷ 6 ∷ 7 ∷ 8 ∷ []) (tag_of the_type fault) → expected_for fault row ≡ expected_text row
-of_row NoSheet row h = absurd (miss (1 ∷ 2 ∷ 3 ∷ 4 ∷ 5 ∷ 6 ∷ 7 ∷ 8 ∷ []) 0 tt h)
+of_row : (fault : LineFault) (row : ℕ) → (fault ≡ NoSheet → ⊥) → expected_for fault row ≡ expected_text row
+of_row NoSheet row h = absurd (h refl)
 of_row Missing row h = refl
 of_row NoName row h = refl
 of_row Twice row h = refl
@@ -32,4 +32,4 @@ returns-in-NoSheet c = rw c.in-NoSheet.is (c.put.ensures.0, omega arith)
 pub returns : goal.returns
 returns c =
     let a = c.args in
-    rw (of_row a.fault a.row c.in-NoSheet.keys2) (expected_stands _ _ _ c.put_expected.ensures (omega arith))
+    rw (of_row a.fault a.row c.in_default.not-NoSheet) (expected_stands _ _ _ c.put_expected.ensures (omega arith))

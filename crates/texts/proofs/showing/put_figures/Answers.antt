@@ -6,7 +6,7 @@ use Rattle.texts.proofs.showing.put_figures.Goals as goal
 
 pub returns-in-Good : goal.returns-in-Good
 returns-in-Good c =
-    rw c.write.ensures.1 (sheet_put c.args.figures c.args.buffer.now c.args.at _ (search rules) c.requires (sym c.sheet_from-made.ensures ∙ e))
+    rw c.write.ensures.1 (sheet_put c.args.figures c.args.buffer.now c.args.at _ (search rules) c.requires (sym c.sheet_from-made.ensures ∙ c.in-Good.is))
 
 pub returns-in-NoSheet : goal.returns-in-NoSheet
 returns-in-NoSheet c =

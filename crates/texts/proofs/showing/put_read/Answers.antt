@@ -6,4 +6,4 @@ pub returns-in-Good : goal.returns-in-Good
 returns-in-Good c = rw c.in-Good.is (rw c.figures_of.ensures at c.put_rows.ensures)
 
 pub returns-in-NoSheet : goal.returns-in-NoSheet
-returns-in-NoSheet c = rw c.in-NoSheet.is c.Put-refused.ensures
+returns-in-NoSheet c = rw c.in-NoSheet.is c.put_refused.ensures

@@ -17,4 +17,4 @@ returns-in-Skipping c = rw (← c.begins_sheet.ensures, c.if-begins_sheet.false,
 
 pub returns-in-InRow : goal.returns-in-InRow
 unfolding step_of
-returns-in-InRow c = rw (← c.begins_sheet.ensures, c.if-begins_sheet.false, c.in-InRow.is) c.Row-step.ensures
+returns-in-InRow c = rw (← c.begins_sheet.ensures, c.if-begins_sheet.false, c.in-InRow.is) c.row_step.ensures

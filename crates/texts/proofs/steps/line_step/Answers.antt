@@ -9,4 +9,4 @@ returns-then-passed_over c = rw (← c.passed_over.ensures, c.if-passed_over.tru
 
 pub returns : goal.returns
 unfolding line_step
-returns c = rw (← c.passed_over.ensures, c.if-passed_over.false) c.Kept-step.ensures
+returns c = rw (← c.passed_over.ensures, c.if-passed_over.false) c.kept_step.ensures
