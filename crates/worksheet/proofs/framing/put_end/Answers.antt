@@ -1,0 +1,12 @@
+-- `worksheet::framing::put_end` meets its contract: the line to sign, the bytes and a form feed, one behind another.
+use native.Mathlib.Omega.{arith}
+use borrow.Author.Rules.{rules}
+use Rattle.lines.proofs.putting.Placing.{put_on}
+use Rattle.worksheet.specs.Framing.{end_text}
+use Rattle.worksheet.proofs.framing.put_end.Goals as goal
+
+pub returns : goal.returns
+unfolding end_text
+returns c =
+    let digits = rw c.shown_bytes.ensures at c.put_hex-last.ensures.0 in
+    (put_on (put_on (put_on c.put_signature-line.ensures.0 c.put_bytes-hex.ensures.0 (omega arith)) digits (omega arith)) c.put_bytes.ensures.0 (omega arith), omega arith)

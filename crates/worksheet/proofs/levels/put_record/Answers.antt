@@ -1,0 +1,10 @@
+-- `worksheet::levels::put_record` meets its contract: the head and then the steps.
+use native.Mathlib.Omega.{arith}
+use borrow.Author.Rules.{rules}
+use Rattle.lines.proofs.putting.Placing.{put_on}
+use Rattle.worksheet.specs.Levels.{record_part}
+use Rattle.worksheet.proofs.levels.put_record.Goals as goal
+
+pub returns : goal.returns
+unfolding record_part
+returns c = (put_on c.put_bytes-head.ensures.0 c.put_steps.ensures.0 (omega (arith, c.requires, c.put_bytes-head.ensures.1)), omega (arith, c.put_bytes-head.ensures.1, c.put_steps.ensures.1))

@@ -1,0 +1,13 @@
+-- `worksheet::refusals::put_no_level` meets its contract: each arm puts the text of its fault.
+use native.Mathlib.Omega.{arith}
+use borrow.Author.Rules.{rules}
+use Rattle.worksheet.proofs.refusals.put_no_level.Goals as goal
+
+pub returns-in-WrongTable : goal.returns-in-WrongTable
+returns-in-WrongTable c = rw c.in-WrongTable.is (c.put_bytes.ensures.0, omega (arith, c.put_bytes.ensures.1))
+
+pub returns-in-TooFewReadings : goal.returns-in-TooFewReadings
+returns-in-TooFewReadings c = rw c.in-TooFewReadings.is (rw c.one.ensures at c.put.ensures.0, omega (arith, c.put.ensures.1))
+
+pub returns-in-RangeTooWide : goal.returns-in-RangeTooWide
+returns-in-RangeTooWide c = rw c.in-RangeTooWide.is (rw (c.one-in-RangeTooWide.ensures, c.short.ensures) at c.put-in-RangeTooWide.ensures.0, omega (arith, c.put-in-RangeTooWide.ensures.1))

@@ -1,0 +1,6 @@
+-- `worksheet::with_stretch` meets its contract: by the answer.
+use borrow.Author.Rules.{rules}
+use Rattle.worksheet.proofs.with_stretch.Goals as goal
+
+pub returns-in-Answered : goal.returns-in-Answered
+returns-in-Answered c = rw c.in-Answered.is c.greater.ensures
