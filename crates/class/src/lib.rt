@@ -1,5 +1,6 @@
 // The classes of a ship, a width and a depth, 0 special to 4, and the route's (definition, section 7).
 #![tactic(auto)]
+
 ghost use Rattle.std.specs.Prelude.{◌≡◌, []};
 ghost use Rattle.class.specs.Classes.{class_by, ship_class, width_class, depth_class, classes_of, limits_by, ship_limits, width_limits, depth_limits, with_ship, route_class};
 

@@ -1,6 +1,7 @@
 // Neighbours of one unit, as types of their own: depths below two datums, with the level that alone leads from one to the other (definition,
 // section 4.1), and the two currents.
 #![tactic(auto)]
+
 ghost use Rattle.std.specs.Prelude.{◌≡◌};
 ghost use Rattle.datum.specs.Datum.{natural_depth, datum_depth};
 

@@ -1,5 +1,6 @@
 // Depth below the design level: the worksheet, and the cut it ends in (definition, section 4).
 #![tactic(auto)]
+
 ghost use Rattle.std.specs.Prelude.{◌≡◌, ◌+◌, ◌-◌, ◌*◌, ◌^◌, ◌≤◌, ◌<◌, get_or};
 ghost use Rattle.laws.specs.Rounding.{up};
 ghost use Rattle.datum.specs.Datum.{dug};

@@ -1,6 +1,7 @@
 // The plain engine: the definition of the depth read straight (definition, sections 4.2 to 4.7). It tries each cut from 1 to 3,000 and takes the first that
 // meets the definition; where none does, it asks the columns why.
 #![tactic(auto)]
+
 ghost use Rattle.std.specs.Prelude.{◌≡◌, true, ◌^◌, ◌<◌};
 ghost use Rattle.datum.specs.Datum.{dug};
 ghost use Rattle.depth.specs.Depth.{column_of, z3, sailing, z4};

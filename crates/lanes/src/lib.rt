@@ -1,5 +1,6 @@
 // Lanes: one or two, as the sheet names them or by the traffic (definition, section 3).
 #![tactic(auto)]
+
 ghost use Rattle.std.specs.Prelude.{◌≡◌};
 ghost use Rattle.lanes.specs.Lanes.{lane_count, lanes_of, by_traffic, sides_of};
 

@@ -1,5 +1,4 @@
 -- `class::classes_of` meets its contract: each class is its own call's.
-use borrow.Author.Rules.{rules}
 use Rattle.class.proofs.classes_of.Goals as goal
 
 pub returns : goal.returns

@@ -1,5 +1,4 @@
 -- `class::width_class` meets its contract: the limits of one lane, and those of two.
-use borrow.Author.Rules.{rules}
 use Rattle.class.proofs.width_class.Goals as goal
 
 pub returns-in-One : goal.returns-in-One

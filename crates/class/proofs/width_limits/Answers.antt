@@ -1,5 +1,4 @@
 -- `class::width_limits` meets its contract: the limits of one lane, and those of two.
-use borrow.Author.Rules.{rules}
 use Rattle.class.proofs.width_limits.Goals as goal
 
 pub returns-in-One : goal.returns-in-One

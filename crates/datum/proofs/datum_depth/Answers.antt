@@ -2,7 +2,6 @@
 use mathlib.Core.Path.{ap}
 use mir.Syntax.{w32}
 use native.Mathlib.Omega.{arith}
-use borrow.Author.Rules.{rules}
 use Rattle.datum.specs.Datum.{below_chart, datum_depth}
 use Rattle.datum.proofs.Signs.{level_fits, less_fits, less_back}
 use Rattle.datum.proofs.datum_depth.Goals as goal

@@ -1,5 +1,4 @@
 -- `depth::allowances_of` meets its contract: the three are the definition's.
-use borrow.Author.Rules.{rules}
 use Rattle.depth.specs.Depth.{allowances_of}
 use Rattle.depth.proofs.allowances_of.Goals as goal
 

@@ -3,7 +3,6 @@ use mathlib.Core.Path.{sym, ◌∙◌}
 use native.Mathlib.Omega.{arith}
 use Rattle.depth.specs.declared.Finding.TheVariants.{Stays, Moves, Unusable}
 use Rattle.depth.proofs.walks.Findings.{stays_within, answer_by_lem}
-use borrow.Author.Rules.{rules}
 use Rattle.depth.proofs.answer_of.Goals as goal
 
 pub overflow_cast-result : goal.overflow_cast-result

@@ -1,7 +1,6 @@
 -- `depth::column_of` meets its contract: a way out for each column.
 use native.Mathlib.Omega.{arith}
 use Rattle.depth.proofs.squat.Columns.{column_a, column_b, column_c}
-use borrow.Author.Rules.{rules}
 use Rattle.depth.proofs.column_of.Goals as goal
 
 pub returns-then-dug-cut : goal.returns-then-dug-cut

@@ -20,7 +20,7 @@ use Rattle.depth.specs.declared.Finding.{Finding}
 use Rattle.depth.specs.declared.Finding.TheVariants.{Stays, Moves, Unusable}
 use Rattle.depth.specs.declared.Depth.{Depth}
 use Rattle.depth.specs.declared.Depth.TheVariants.{Cut, NoCut}
-use Rattle.depth.specs.Squat.{none, column_number}
+use Rattle.depth.specs.Squat.{column_number}
 use Rattle.depth.specs.Depth.{natural_of, sailing, Deep, Serves, own_column, Meets, AsDefined, depth_fault_number, depth_number, NoDepthNumber}
 use Rattle.depth.specs.Worksheet.{silt, figure, column_try, finding_of, is_move, moves_on, tries, last_try, answer_by, answer_of, work_depth, Followed, Counted}
 use Rattle.depth.specs.Reasons.{IsFigure, Usable, Fails, Comes, there, by_way_of, FirstUnusable, Reasoned}

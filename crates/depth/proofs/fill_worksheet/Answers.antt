@@ -1,7 +1,6 @@
 -- `depth::fill_worksheet` meets its contract: a way out for one, two and three tries.
 use mathlib.Core.Path.{sym, ◌∙◌}
 use Rattle.depth.proofs.walks.Filled.{filled_one, filled_two, filled_three}
-use borrow.Author.Rules.{rules}
 use Rattle.depth.proofs.fill_worksheet.Goals as goal
 
 pub returns-then-not-moves_on : goal.returns-then-not-moves_on

@@ -1,7 +1,6 @@
 -- `depth::finding_of` meets its contract: a way out for each limit, and two where the figure falls.
 use native.Mathlib.Omega.{arith}
 use Rattle.depth.proofs.walks.Findings.{no_entry, too_much_silt, too_deep, stays, moves}
-use borrow.Author.Rules.{rules}
 use Rattle.depth.proofs.finding_of.Goals as goal
 
 pub returns-then-tried-ge-NONE : goal.returns-then-tried-ge-NONE

@@ -2,7 +2,6 @@
 use mathlib.Core.Path.{refl}
 use borrow.Author.Tests.{lt-ltb, le-ltb}
 use Rattle.depth.specs.Interval.{interval_of}
-use borrow.Author.Rules.{rules}
 use Rattle.depth.proofs.interval_of.Goals as goal
 
 pub returns-then-code-gt5 : goal.returns-then-code-gt5

@@ -1,7 +1,6 @@
 -- `depth::last_line` meets its contract: the count is 1, 2 or 3.
 use mathlib.Core.Path.{◌≡◌}
 use native.Mathlib.Omega.{arith}
-use borrow.Author.Rules.{rules}
 use Rattle.depth.proofs.last_line.Goals as goal
 
 pub returns-then-count-eq1 : goal.returns-then-count-eq1

@@ -2,7 +2,6 @@
 use Rattle.depth.specs.declared.Finding.TheVariants.{Stays, Moves, Unusable}
 use Rattle.depth.proofs.walks.Findings.{moves_by}
 use mathlib.Core.Path.{sym, ◌∙◌}
-use borrow.Author.Rules.{rules}
 use Rattle.depth.proofs.moves_on.Goals as goal
 
 pub returns-in-Stays : goal.returns-in-Stays

@@ -3,7 +3,6 @@ use mathlib.Core.Path.{ap}
 use native.Mathlib.Omega.{arith}
 use Rattle.depth.specs.Depth.{sailing_with}
 use Rattle.depth.specs.Worksheet.{reckoned}
-use borrow.Author.Rules.{rules}
 use Rattle.depth.proofs.sailing_depth.Goals as goal
 
 pub returns : goal.returns

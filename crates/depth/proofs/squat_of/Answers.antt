@@ -2,7 +2,6 @@
 use native.Mathlib.Omega.{arith}
 use Rattle.depth.proofs.squat.Columns.{column_most, reading_most}
 use Rattle.depth.proofs.squat.Table.{too_slow, too_fast, in_table}
-use borrow.Author.Rules.{rules}
 use Rattle.depth.proofs.squat_of.Goals as goal
 
 pub returns-then-speed-lt2 : goal.returns-then-speed-lt2

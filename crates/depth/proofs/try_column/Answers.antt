@@ -1,6 +1,5 @@
 -- `depth::try_column` meets its contract: each part is the definition's, of the parts before it.
 use Rattle.depth.proofs.walks.Tries.{line_is}
-use borrow.Author.Rules.{rules}
 use Rattle.depth.proofs.try_column.Goals as goal
 
 pub returns : goal.returns

@@ -4,7 +4,6 @@ use native.Mathlib.Omega.{arith}
 use Rattle.depth.specs.Worksheet.{last_try, tries, answer_of, work_depth}
 use Rattle.depth.proofs.walks.Tries.{tries_count, last_sails}
 use Rattle.depth.proofs.walks.Filled.{count_is, last_is}
-use borrow.Author.Rules.{rules}
 use Rattle.depth.proofs.work_depth.Goals as goal
 
 -- the line that was taken is the last try

@@ -3,7 +3,6 @@ use mathlib.Core.Path.{ap, ◌∙◌}
 use native.Mathlib.Omega.{arith}
 use Rattle.engine.specs.declared.Ruling.TheVariants.{FallsIn}
 use Rattle.engine.proofs.Tests.{figure_over, figure_falls}
-use borrow.Author.Rules.{rules}
 use Rattle.engine.proofs.by_figure.Goals as goal
 
 pub returns-then-d-gt-DEEPEST : goal.returns-then-d-gt-DEEPEST

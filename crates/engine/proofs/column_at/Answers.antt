@@ -1,7 +1,6 @@
 -- `engine::column_at` meets its contract: a way out for each column.
 use native.Mathlib.Omega.{arith}
 use Rattle.depth.proofs.squat.Columns.{column_a, column_b, column_c}
-use borrow.Author.Rules.{rules}
 use Rattle.engine.proofs.column_at.Goals as goal
 
 pub returns-then-h-d : goal.returns-then-h-d

@@ -4,7 +4,6 @@ use native.Mathlib.Omega.{arith}
 use Rattle.depth.specs.Depth.{sailing, own_column}
 use Rattle.engine.specs.Plain.{figures_at}
 use Rattle.engine.proofs.Serving.{meets_exactly}
-use borrow.Author.Rules.{rules}
 use Rattle.engine.proofs.figures_at.Goals as goal
 
 pub overflow_cast-result-2 : goal.overflow_cast-result-2

@@ -1,10 +1,8 @@
 -- `engine::first_cut` meets its contract: the search from where the loop stands answers for all of it.
-use mathlib.Core.Path.{◌≡◌, refl, sym, ◌∙◌}
-use Prim.Native.Nat.{◌-◌, ◌≤◌}
+use mathlib.Core.Path.{refl, sym, ◌∙◌}
 use native.Mathlib.Omega.{arith}
-use Rattle.engine.specs.Plain.{meets, first_depth, first_cut}
+use Rattle.engine.specs.Plain.{meets, first_cut}
 use Rattle.engine.proofs.Searches.{depth_here, depth_end, depth_on}
-use borrow.Author.Rules.{rules}
 use Rattle.engine.proofs.first_cut.Goals as goal
 
 pub loop-d-init : goal.loop-d-init

@@ -1,10 +1,7 @@
 -- `engine::first_cut` meets its contract: the search from where the loop stands answers for all of it.
-use mathlib.Core.Path.{◌≡◌, refl, sym, ◌∙◌}
+use mathlib.Core.Path.{◌≡◌}
 use Prim.Native.Nat.{◌-◌, ◌≤◌}
-use native.Mathlib.Omega.{arith}
 use Rattle.engine.specs.Plain.{meets, first_depth, first_cut}
-use Rattle.engine.proofs.Searches.{depth_here, depth_end, depth_on}
-use borrow.Author.Rules.{rules}
 use Rattle.engine.proofs.first_cut.Given as goal
 
 abbrev pub invariant-loop-d : goal.invariant-loop-d

@@ -1,10 +1,9 @@
 -- `engine::first_figure` meets its contract: the search from where the loop stands answers for all of it.
 use mathlib.Core.Path.{◌≡◌, sym, ◌∙◌}
-use Prim.Native.Nat.{◌+◌, ◌-◌, ◌≤◌}
+use Prim.Native.Nat.{◌+◌, ◌-◌}
 use native.Mathlib.Omega.{arith}
-use Rattle.engine.specs.Plain.{deep, first_depth, first_figure}
+use Rattle.engine.specs.Plain.{deep, first_figure}
 use Rattle.engine.proofs.Searches.{depth_here, depth_end, depth_on}
-use borrow.Author.Rules.{rules}
 use Rattle.engine.proofs.first_figure.Goals as goal
 
 pub loop-figure-init : goal.loop-figure-init

@@ -1,6 +1,5 @@
 -- `engine::is_deep` meets its contract: the two parts are the definition's.
 use Rattle.engine.specs.Plain.{deep}
-use borrow.Author.Rules.{rules}
 use Rattle.engine.proofs.is_deep.Goals as goal
 
 pub returns : goal.returns

@@ -1,6 +1,5 @@
 -- `engine::meets_it` meets its contract: the column is the cut's own.
 use Rattle.engine.specs.Plain.{meets}
-use borrow.Author.Rules.{rules}
 use Rattle.engine.proofs.meets_it.Goals as goal
 
 pub returns : goal.returns

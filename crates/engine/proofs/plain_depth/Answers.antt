@@ -3,7 +3,6 @@ use mathlib.Core.Path.{sym, ap, ◌∙◌}
 use Rattle.engine.specs.declared.PlainDepth.TheVariants.{Met, Unmet}
 use Rattle.engine.specs.Plain.{by_search, plain_depth}
 use Rattle.engine.proofs.Straight.{cut_found}
-use borrow.Author.Rules.{rules}
 use Rattle.engine.proofs.plain_depth.Goals as goal
 
 pub figures_at-requires : goal.figures_at-requires

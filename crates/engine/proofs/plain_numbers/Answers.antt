@@ -1,5 +1,4 @@
 -- `engine::plain_numbers` meets its contract: an arm for each way.
-use borrow.Author.Rules.{rules}
 use Rattle.engine.proofs.plain_numbers.Goals as goal
 
 pub returns-in-Met : goal.returns-in-Met

@@ -1,9 +1,6 @@
 -- `engine::reason_of` meets its contract: the reason from where the loop stands is that of the whole.
-use mathlib.Core.Path.{◌≡◌, refl, sym, ◌∙◌}
-use native.Mathlib.Omega.{arith}
+use mathlib.Core.Path.{◌≡◌}
 use Rattle.engine.specs.Plain.{reason_from, reason_of}
-use Rattle.engine.proofs.Tests.{fails_here, falls_on, none_left}
-use borrow.Author.Rules.{rules}
 use Rattle.engine.proofs.reason_of.Given as goal
 
 abbrev pub invariant-loop-left : goal.invariant-loop-left

@@ -3,7 +3,6 @@ use mathlib.Core.Path.{sym, ap, ◌∙◌}
 use native.Mathlib.Omega.{arith}
 use Rattle.engine.specs.Plain.{by_figure}
 use Rattle.engine.proofs.Tests.{rules_entry, rules_figure}
-use borrow.Author.Rules.{rules}
 use Rattle.engine.proofs.ruling_of.Goals as goal
 
 pub returns-then-squat_in-ge-NONE : goal.returns-then-squat_in-ge-NONE

@@ -2,7 +2,6 @@
 use mathlib.Core.Path.{◌∙◌}
 use native.Mathlib.Omega.{arith}
 use Rattle.engine.proofs.Tests.{no_entry, much_silt, by_depth_lem}
-use borrow.Author.Rules.{rules}
 use Rattle.engine.proofs.serves_cut.Goals as goal
 
 pub returns-then-squat_in-ge-NONE : goal.returns-then-squat_in-ge-NONE

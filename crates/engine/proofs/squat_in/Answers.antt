@@ -1,6 +1,5 @@
 -- `engine::squat_in` meets its contract: the squat at the ship's speed, in its lanes.
 use Rattle.depth.specs.Depth.{z3}
-use borrow.Author.Rules.{rules}
 use Rattle.engine.proofs.squat_in.Goals as goal
 
 pub returns : goal.returns

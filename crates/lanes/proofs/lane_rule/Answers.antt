@@ -1,5 +1,4 @@
 -- `lanes::lane_rule` meets its contract: a way out for each case of the definition.
-use borrow.Author.Rules.{rules}
 use borrow.Author.Tests.{eq-eqb, ne_eqb}
 use Rattle.lanes.specs.Lanes.{lanes_of}
 use Rattle.lanes.proofs.lane_rule.Goals as goal
