@@ -1,5 +1,6 @@
 // The two engines beside each other: the answer of a sheet, and what the plain engine has for its depth (definition, section 16).
 #![tactic(auto)]
+
 ghost use Rattle.std.specs.Prelude.{◌≡◌};
 ghost use Rattle.both.specs.Both.{reason_came, came_to, uncounted, same_numbers, verdict_of, not_come, of_stretch, by_level, by_reading, both_of};
 

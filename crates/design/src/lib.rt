@@ -1,5 +1,6 @@
 // A design: from any bytes and a level table to its figures, or the reason why there are none (definition, section 8).
 #![tactic(auto)]
+
 ghost use Rattle.std.specs.Prelude.{◌≡◌};
 ghost use Rattle.design.specs.Design.{design_at, design_of};
 ghost use Rattle.design.specs.Numbers.{code_of, numbers_of};

@@ -1,5 +1,6 @@
 // The lines of the printing program: their text in decimal, put into a lent buffer.
 #![tactic(auto)]
+
 ghost use Rattle.std.specs.Prelude.{◌≡◌, [], ◌∷◌, map, ◌+◌, ◌-◌, ◌*◌, ◌≤◌, ◌<◌, nat_abs, length, take, drop};
 ghost use Rattle.laws.specs.Choice.{◌≤ᵇ◌};
 ghost use Rattle.engine.specs.Numbers.{plain_count};

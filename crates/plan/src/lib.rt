@@ -1,5 +1,6 @@
 // The call from C: a sheet's bytes in, the numbers of its design into a place that is lent, the code back (definition, section 9).
 #![tactic(auto)]
+
 ghost use Rattle.std.specs.Prelude.{◌≡◌, ◌++◌, ◌+◌, ◌≤◌, length, drop};
 ghost use Rattle.std.proofs.lemmas.List.Edits.{sets};
 ghost use Rattle.std.specs.Int.{w32};

@@ -2,7 +2,6 @@
 use mathlib.Core.Path.{sym, ap, ◌∙◌}
 use Rattle.design.specs.Design.{depth_stretch}
 use Rattle.both.specs.Both.{of_stretch, by_level}
-use borrow.Author.Rules.{rules}
 use Rattle.both.proofs.by_level.Goals as goal
 
 pub returns-in-Found : goal.returns-in-Found

@@ -2,7 +2,6 @@
 use mathlib.Core.Path.{sym, ap, ◌∙◌}
 use Rattle.sheet.specs.declared.SheetRead.{SheetRead}
 use Rattle.both.specs.Both.{by_level, by_reading}
-use borrow.Author.Rules.{rules}
 use Rattle.both.proofs.by_reading.Goals as goal
 
 pub returns-in-Good : goal.returns-in-Good

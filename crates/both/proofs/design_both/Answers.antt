@@ -1,10 +1,8 @@
 -- `both::design_both` meets its contract: by whether the sheet came to its depth.
 use mathlib.Core.Path.{sym, ap, ◌∙◌}
-use borrow.Author.Tests.{not-true, not-false}
 use Rattle.sheet.specs.declared.SheetRead.{SheetRead}
 use Rattle.both.specs.Both.{by_reading, beside, both_of}
 use Rattle.both.proofs.Steps.{refused_before, came_there}
-use borrow.Author.Rules.{rules}
 use Rattle.both.proofs.design_both.Goals as goal
 
 pub returns-then-not-came_to : goal.returns-then-not-came_to

@@ -1,6 +1,5 @@
 -- `both::of_stretch` meets its contract: the numbers are those of the two calls.
 use Rattle.both.specs.Both.{of_stretch}
-use borrow.Author.Rules.{rules}
 use Rattle.both.proofs.of_stretch.Goals as goal
 
 pub returns : goal.returns

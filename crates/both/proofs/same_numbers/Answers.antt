@@ -1,6 +1,5 @@
 -- `both::same_numbers` meets its contract: a way out for each number that differs.
 use Rattle.both.proofs.Steps.{other_refusal, other_sailing, by_the_cut}
-use borrow.Author.Rules.{rules}
 use Rattle.both.proofs.same_numbers.Goals as goal
 
 pub returns-then-worked-plain : goal.returns-then-worked-plain

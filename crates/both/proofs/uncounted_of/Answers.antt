@@ -1,5 +1,4 @@
 -- `both::uncounted_of` meets its contract: an arm for each way.
-use borrow.Author.Rules.{rules}
 use Rattle.both.proofs.uncounted_of.Goals as goal
 
 pub returns-in-Cut : goal.returns-in-Cut

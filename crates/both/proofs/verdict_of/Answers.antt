@@ -1,7 +1,6 @@
 -- `both::verdict_of` meets its contract: by whether the numbers are the same.
 use mathlib.Core.Path.{sym, ◌∙◌}
 use Rattle.both.specs.Both.{verdict_of}
-use borrow.Author.Rules.{rules}
 use Rattle.both.proofs.verdict_of.Goals as goal
 
 pub returns-then-same_numbers : goal.returns-then-same_numbers

@@ -1,7 +1,6 @@
 -- `design::design` meets its contract: the level is that of the table.
 use mathlib.Core.Path.{ap, ◌∙◌}
 use Rattle.design.specs.Design.{design_at, design_of}
-use borrow.Author.Rules.{rules}
 use Rattle.design.proofs.design.Goals as goal
 
 pub returns : goal.returns

@@ -1,6 +1,5 @@
 -- `design::design_at` meets its contract: by what the bytes are read as.
 use mathlib.Core.Path.{ap, sym, ◌∙◌}
-use borrow.Author.Rules.{rules}
 use Rattle.sheet.specs.declared.SheetRead.{SheetRead}
 use Rattle.design.specs.Design.{by_reading, design_at}
 use Rattle.design.proofs.design_at.Goals as goal

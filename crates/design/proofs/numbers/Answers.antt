@@ -1,7 +1,6 @@
 -- `design::numbers` meets its contract: case by case.
 use mathlib.Core.Path.{ap₂, ◌∙◌}
 use Rattle.design.specs.Numbers.{refused_numbers, numbers_of}
-use borrow.Author.Rules.{rules}
 use Rattle.design.proofs.numbers.Goals as goal
 
 pub returns-in-Answered : goal.returns-in-Answered

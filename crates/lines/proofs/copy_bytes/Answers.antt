@@ -1,13 +1,12 @@
 -- `lines::copy_bytes` meets its contract. The loop's invariant: the bytes passed stand. The measure is the bytes that are left.
-use Prim.Native.Nat.{◌+◌, ◌-◌, ◌≤◌}
+use Prim.Native.Nat.{◌+◌}
 use mathlib.Core.Path.{◌≡◌, refl}
 use mathlib.Core.List.{[], ◌∷◌, ◌++◌}
 use native.Mathlib.Numerals.{add-one}
 use native.Mathlib.Nat.{add-zero}
 use native.Mathlib.Omega.{arith}
-use lib.ListN.{length, take, get_or, length-set}
+use lib.ListN.{take, get_or, length-set}
 use lib.Seq.{take-suc, take_all}
-use Rattle.lines.specs.Lines.{Put}
 use Rattle.lines.proofs.putting.Placing.{put_none, then_byte}
 use Rattle.lines.proofs.copy_bytes.Goals as goal
 

@@ -1,7 +1,6 @@
 -- `lines::magnitude` meets its contract: no step of its sum wraps, the lowest number's neither.
 use mathlib.Core.Path.{ap, ◌∙◌}
 use native.Mathlib.Omega.{arith}
-use borrow.Author.Rules.{rules}
 use lib.IntN.{ℤ, nat_abs}
 use mir.Syntax.{w32, w64}
 use mir.Val.{SFits, to_z, of_z}

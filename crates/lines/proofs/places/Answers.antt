@@ -1,9 +1,5 @@
 -- `lines::places` meets its contract. The loop's invariant: the count has the places passed and those of what is left.
-use Prim.Native.Nat.{◌+◌, ◌≤◌}
-use mathlib.Core.Path.{◌≡◌}
 use native.Mathlib.Omega.{arith}
-use lib.ListN.{length}
-use Rattle.lines.specs.Decimals.{digits}
 use Rattle.lines.proofs.decimals.Digits.{places_one, places_two, places_three, places_four, places_four_more, places_at_most}
 use Rattle.lines.proofs.places.Goals as goal
 

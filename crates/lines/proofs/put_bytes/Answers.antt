@@ -1,5 +1,4 @@
 -- `lines::put_bytes` meets its contract: where the bytes fit, and where they do not.
-use borrow.Author.Rules.{rules}
 use Rattle.lines.proofs.putting.Fitting.{room, unfit, fitting}
 use Rattle.lines.proofs.put_bytes.Goals as goal
 

@@ -2,7 +2,6 @@
 use native.Mathlib.Omega.{arith}
 use lib.ListN.{length-set}
 use Rattle.lines.proofs.putting.Counting.{two_stand, three_stand, four_stand}
-use borrow.Author.Rules.{rules}
 use Rattle.lines.proofs.put_count.Goals as goal
 
 pub returns-then-count-lt10 : goal.returns-then-count-lt10

@@ -1,13 +1,11 @@
 -- `lines::put_counts` meets its contract. The loop's invariant: the counts passed stand, each behind one space.
 -- The measure is the counts that are left.
-use Prim.Native.Nat.{◌+◌, ◌*◌, ◌-◌, ◌≤◌}
-use mathlib.Core.Path.{◌≡◌, refl}
+use mathlib.Core.Path.{refl}
 use native.Mathlib.Omega.{arith}
-use borrow.Author.Rules.{rules}
-use lib.ListN.{length, length-set}
+use lib.ListN.{length-set}
 use lib.Seq.{take_all}
 use Rattle.lines.specs.Decimals.{count_text}
-use Rattle.lines.proofs.putting.Spacing.{Words, no_words, next_word}
+use Rattle.lines.proofs.putting.Spacing.{no_words, next_word}
 use Rattle.lines.proofs.put_counts.Goals as goal
 
 pub loop-i-init : goal.loop-i-init

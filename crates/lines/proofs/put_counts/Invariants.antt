@@ -1,13 +1,10 @@
 -- `lines::put_counts` meets its contract. The loop's invariant: the counts passed stand, each behind one space.
 -- The measure is the counts that are left.
 use Prim.Native.Nat.{◌+◌, ◌*◌, ◌-◌, ◌≤◌}
-use mathlib.Core.Path.{◌≡◌, refl}
-use native.Mathlib.Omega.{arith}
-use borrow.Author.Rules.{rules}
-use lib.ListN.{length, length-set}
-use lib.Seq.{take_all}
+use mathlib.Core.Path.{◌≡◌}
+use lib.ListN.{length}
 use Rattle.lines.specs.Decimals.{count_text}
-use Rattle.lines.proofs.putting.Spacing.{Words, no_words, next_word}
+use Rattle.lines.proofs.putting.Spacing.{Words}
 use Rattle.lines.proofs.put_counts.Given as goal
 
 -- `lines::put_counts` meets its contract. The loop's invariant: the counts passed stand, each behind one space.

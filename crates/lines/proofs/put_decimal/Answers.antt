@@ -1,5 +1,4 @@
 -- `lines::put_decimal` meets its contract: where 20 bytes fit, and where they do not.
-use borrow.Author.Rules.{rules}
 use Rattle.lines.specs.Lines.{count_bytes}
 use Rattle.lines.proofs.putting.Fitting.{room, unfit, fitting}
 use Rattle.lines.proofs.put_decimal.Goals as goal

@@ -2,7 +2,6 @@
 use native.Mathlib.Omega.{arith}
 use Rattle.lines.proofs.putting.Counting.{count_one}
 use Rattle.lines.proofs.putting.Placing.{put_byte}
-use borrow.Author.Rules.{rules}
 use Rattle.lines.proofs.put_digit.Goals as goal
 
 pub returns : goal.returns

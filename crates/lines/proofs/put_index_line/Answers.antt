@@ -1,7 +1,6 @@
 -- `lines::put_index_line` meets its contract: the index, the numbers behind it, those of the plain engine, the newline after them.
 use native.Mathlib.Omega.{arith}
 use lib.ListN.{length-set}
-use borrow.Author.Rules.{rules}
 use Rattle.lines.proofs.putting.Placing.{put_on, then_byte}
 use Rattle.lines.proofs.wholes.Longer.{line_by_parts}
 use Rattle.lines.proofs.put_index_line.Goals as goal

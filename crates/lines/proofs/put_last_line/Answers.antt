@@ -1,5 +1,4 @@
 -- `lines::put_last_line` meets its contract: by the form.
-use borrow.Author.Rules.{rules}
 use Rattle.lines.specs.Lines.{route_line, both_route_line}
 use Rattle.lines.proofs.put_last_line.Goals as goal
 

@@ -1,7 +1,6 @@
 -- `lines::put_letter_line` meets its contract: the letter, the counts behind it, the newline after them.
 use Rattle.lines.proofs.putting.Placing.{byte_then, then_byte}
 use native.Mathlib.Omega.{arith}
-use borrow.Author.Rules.{rules}
 use lib.ListN.{length-set}
 use Rattle.lines.proofs.put_letter_line.Goals as goal
 

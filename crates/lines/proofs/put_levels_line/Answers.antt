@@ -1,6 +1,5 @@
 -- `lines::put_levels_line` meets its contract: where a line fits, and where none does.
 use native.Mathlib.Omega.{arith}
-use borrow.Author.Rules.{rules}
 use lib.ListN.{length}
 use Rattle.lines.specs.Lines.{line_bytes, levels_line}
 use Rattle.lines.proofs.putting.Fitting.{room, unfit, fitting}

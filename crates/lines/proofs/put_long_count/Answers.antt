@@ -1,12 +1,10 @@
 -- `lines::put_long_count` meets its contract. The loop's invariant: the digits from place on stand, and what is left of the count is still to be put.
 -- The measure is what is left.
-use Prim.Native.Nat.{◌+◌, ◌≤◌}
-use mathlib.Core.Path.{◌≡◌, refl}
+use mathlib.Core.Path.{refl}
 use native.Mathlib.Omega.{arith}
-use borrow.Author.Rules.{rules}
-use lib.ListN.{length, length-set}
+use lib.ListN.{length-set}
 use Rattle.lines.proofs.decimals.Digits.{places_at_most, places_some}
-use Rattle.lines.proofs.putting.Counting.{Standing, none_stands, one_more_stands, all_stands}
+use Rattle.lines.proofs.putting.Counting.{none_stands, one_more_stands, all_stands}
 use Rattle.lines.proofs.put_long_count.Goals as goal
 
 pub loop-rest-init : goal.loop-rest-init

@@ -1,12 +1,9 @@
 -- `lines::put_long_count` meets its contract. The loop's invariant: the digits from place on stand, and what is left of the count is still to be put.
 -- The measure is what is left.
 use Prim.Native.Nat.{◌+◌, ◌≤◌}
-use mathlib.Core.Path.{◌≡◌, refl}
-use native.Mathlib.Omega.{arith}
-use borrow.Author.Rules.{rules}
-use lib.ListN.{length, length-set}
-use Rattle.lines.proofs.decimals.Digits.{places_at_most, places_some}
-use Rattle.lines.proofs.putting.Counting.{Standing, none_stands, one_more_stands, all_stands}
+use mathlib.Core.Path.{◌≡◌}
+use lib.ListN.{length}
+use Rattle.lines.proofs.putting.Counting.{Standing}
 use Rattle.lines.proofs.put_long_count.Given as goal
 
 -- `lines::put_long_count` meets its contract. The loop's invariant: the digits from place on stand, and what is left of the count is still to be put.

@@ -2,7 +2,6 @@
 use Rattle.lines.proofs.putting.Signs.{put_negative, put_plain}
 use native.Mathlib.Omega.{arith}
 use lib.ListN.{length-set}
-use borrow.Author.Rules.{rules}
 use Rattle.lines.proofs.put_number.Goals as goal
 
 pub returns-then-number-lt0 : goal.returns-then-number-lt0

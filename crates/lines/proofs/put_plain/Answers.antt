@@ -1,6 +1,5 @@
 -- `lines::put_plain` meets its contract: by the form; there is nothing to put for the worksheet alone.
 use native.Mathlib.Omega.{arith}
-use borrow.Author.Rules.{rules}
 use Rattle.lines.proofs.putting.Placing.{put_none}
 use Rattle.lines.proofs.put_plain.Goals as goal
 

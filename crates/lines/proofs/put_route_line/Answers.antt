@@ -1,5 +1,4 @@
 -- `lines::put_route_line` meets its contract: where a line fits, and where none does.
-use borrow.Author.Rules.{rules}
 use Rattle.lines.specs.Lines.{line_bytes}
 use Rattle.lines.proofs.putting.Fitting.{room, unfit, fitting}
 use Rattle.lines.proofs.put_route_line.Goals as goal

@@ -1,18 +1,17 @@
 -- `lines::put_run` meets its contract. The loop's invariant: the numbers passed stand, each behind one space.
 -- The measure is the numbers that are left.
-use Prim.Native.Nat.{◌+◌, ◌*◌, ◌-◌, ◌≤◌}
+use Prim.Native.Nat.{◌+◌, ◌-◌}
 use mathlib.Core.Path.{◌≡◌, refl}
 use native.Mathlib.Omega.{arith}
 use borrow.Author.Rules.{rules}
 use lib.IntN.{pos}
-use lib.ListN.{length, drop, get_or, length-set, length-drop}
+use lib.ListN.{drop, get_or, length-set, length-drop}
 use lib.Seq.{get_or-drop}
 use mir.Syntax.{w32}
 use mir.Val.{to_z, of_z}
 use mir.Facts.{to_z-of_z}
 use Rattle.lines.specs.Decimals.{number_text}
-use Rattle.design.specs.Numbers.{number_count}
-use Rattle.lines.proofs.putting.Spacing.{Words, no_words, next_word}
+use Rattle.lines.proofs.putting.Spacing.{no_words, next_word}
 use Rattle.lines.proofs.put_run.Goals as goal
 
 pub loop-i-init : goal.loop-i-init

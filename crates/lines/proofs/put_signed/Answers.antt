@@ -1,5 +1,4 @@
 -- `lines::put_signed` meets its contract: where 21 bytes fit, and where they do not.
-use borrow.Author.Rules.{rules}
 use mir.Facts.{to_z-of_z}
 use Rattle.lines.specs.Lines.{number_bytes}
 use Rattle.lines.proofs.putting.Fitting.{room, unfit, fitting}

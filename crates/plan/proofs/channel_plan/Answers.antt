@@ -1,6 +1,5 @@
 -- `plan::channel_plan` meets its contract: a place too small, or the numbers and the code of the design.
 use Rattle.plan.proofs.Planning.{too_small, large_enough}
-use borrow.Author.Rules.{rules}
 use Rattle.plan.proofs.channel_plan.Goals as goal
 
 pub returns-then-place-lt-NEEDED : goal.returns-then-place-lt-NEEDED

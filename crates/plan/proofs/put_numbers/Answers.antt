@@ -1,17 +1,16 @@
 -- `plan::put_numbers` meets its contract: after i numbers stand their bytes, then what stood there before.
-use Prim.Native.Nat.{◌*◌, ◌-◌, ◌≤◌}
+use Prim.Native.Nat.{◌*◌}
 use mathlib.Core.Path.{◌≡◌, refl, ◌∙◌}
-use mathlib.Core.List.{◌++◌}
 use native.Mathlib.Omega.{arith}
 use lib.IntN.{pos}
-use lib.ListN.{length, take, drop, get_or}
+use lib.ListN.{get_or}
 use lib.Seq.{take_all, length-sets}
 use borrow.Author.Rules.{rules}
 use mir.Syntax.{w32}
 use mir.Val.{to_z, of_z}
 use mir.Facts.{to_z-of_z}
 use Rattle.design.specs.Numbers.{number_count}
-use Rattle.plan.specs.Words.{word_bytes, bytes_of_numbers}
+use Rattle.plan.specs.Words.{word_bytes}
 use Rattle.plan.proofs.Placing.{one_more}
 use Rattle.plan.proofs.put_numbers.Goals as goal
 

@@ -1,18 +1,10 @@
 -- `plan::put_numbers` meets its contract: after i numbers stand their bytes, then what stood there before.
 use Prim.Native.Nat.{◌*◌, ◌-◌, ◌≤◌}
-use mathlib.Core.Path.{◌≡◌, refl, ◌∙◌}
+use mathlib.Core.Path.{◌≡◌}
 use mathlib.Core.List.{◌++◌}
-use native.Mathlib.Omega.{arith}
-use lib.IntN.{pos}
-use lib.ListN.{length, take, drop, get_or}
-use lib.Seq.{take_all, length-sets}
-use borrow.Author.Rules.{rules}
-use mir.Syntax.{w32}
-use mir.Val.{to_z, of_z}
-use mir.Facts.{to_z-of_z}
+use lib.ListN.{length, take, drop}
 use Rattle.design.specs.Numbers.{number_count}
-use Rattle.plan.specs.Words.{word_bytes, bytes_of_numbers}
-use Rattle.plan.proofs.Placing.{one_more}
+use Rattle.plan.specs.Words.{bytes_of_numbers}
 use Rattle.plan.proofs.put_numbers.Given as goal
 
 abbrev pub invariant-loop-i : goal.invariant-loop-i

@@ -1,7 +1,6 @@
 -- `design::checks::at_level` meets its contract: by the bend in the sheet's lanes.
 use Prim.Native.Nat.{◌<◌, ◌^◌}
 use mathlib.Core.Path.{refl, subst}
-use borrow.Author.Rules.{rules}
 use Rattle.width.specs.Bends.{widening_figure}
 use Rattle.width.specs.declared.Bend.{Bend}
 use Rattle.width.specs.declared.Bend.TheVariants.{Widening, TooTight}

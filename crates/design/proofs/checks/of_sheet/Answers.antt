@@ -1,7 +1,6 @@
 -- `design::checks::of_sheet` meets its contract: by the ship's length, then by the level that the sheet is worked at.
 use mathlib.Core.Path.{ap, sym, ◌∙◌}
 use Prim.Native.Nat.{◌*◌}
-use borrow.Author.Rules.{rules}
 use borrow.Author.Tests.{lt-ltb, le-ltb}
 use Rattle.design.specs.Design.{by_level, of_sheet}
 use Rattle.design.proofs.checks.of_sheet.Goals as goal

@@ -1,6 +1,5 @@
 -- `design::checks::past_bend` meets its contract: by the entries of the width.
 use mathlib.Core.Path.{refl}
-use borrow.Author.Rules.{rules}
 use Rattle.width.specs.declared.EntriesFound.TheVariants.{Entered, NoEntry}
 use Rattle.design.proofs.answers.Ways.{by_entries_lem}
 use Rattle.design.proofs.checks.past_bend.Goals as goal

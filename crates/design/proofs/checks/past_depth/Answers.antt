@@ -1,6 +1,5 @@
 -- `design::checks::past_depth` meets its contract: by the check of the speed.
 use mathlib.Core.Path.{refl, ap}
-use borrow.Author.Rules.{rules}
 use Rattle.speed.specs.declared.SpeedCheck.TheVariants.{Allowed, NotAllowed}
 use Rattle.design.specs.declared.Answer.TheVariants.{Answered}
 use Rattle.design.proofs.answers.Ways.{by_check_lem}

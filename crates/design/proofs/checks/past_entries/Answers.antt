@@ -1,7 +1,6 @@
 -- `design::checks::past_entries` meets its contract: by the depth.
 use mathlib.Core.Path.{refl, ap, ◌∙◌}
 use Prim.Native.Nat.{ℕ}
-use borrow.Author.Rules.{rules}
 use Rattle.depth.specs.declared.Depth.TheVariants.{Cut, NoCut}
 use Rattle.design.specs.Design.{past_depth}
 use Rattle.design.proofs.answers.Ways.{by_depth_lem}

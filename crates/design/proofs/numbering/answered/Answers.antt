@@ -2,7 +2,6 @@
 use mathlib.Core.Path.{refl, ap, ◌∙◌}
 use mathlib.Core.List.{List, ◌∷◌}
 use lib.IntN.{ℤ, pos}
-use borrow.Author.Rules.{rules}
 use Rattle.design.proofs.answers.Held.{held}
 use Rattle.design.proofs.numbering.answered.Goals as goal
 

@@ -2,7 +2,6 @@
 use native.Mathlib.Omega.{arith}
 use mir.Syntax.{w32}
 use Rattle.datum.proofs.Signs.{level_fits, level_back}
-use borrow.Author.Rules.{rules}
 use Rattle.design.proofs.numbering.level_number.Goals as goal
 
 pub overflow_sub-result : goal.overflow_sub-result

@@ -1,6 +1,5 @@
 -- `design::numbering::refused` meets its contract: the number and the field are widened, and the rest are zeros.
 use mathlib.Core.Path.{refl}
-use borrow.Author.Rules.{rules}
 use Rattle.design.proofs.answers.Held.{held}
 use Rattle.design.proofs.numbering.refused.Goals as goal
 

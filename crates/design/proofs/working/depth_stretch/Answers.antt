@@ -1,5 +1,4 @@
 -- `design::working::depth_stretch` meets its contract: the natural depth and the interval are those of the definition.
-use borrow.Author.Rules.{rules}
 use Rattle.design.proofs.working.depth_stretch.Goals as goal
 
 pub returns : goal.returns

@@ -1,5 +1,4 @@
 -- `design::working::level_for` meets its contract: by the source.
-use borrow.Author.Rules.{rules}
 use Rattle.design.proofs.working.level_for.Goals as goal
 
 pub returns-in-Given : goal.returns-in-Given

@@ -1,5 +1,4 @@
 -- `design::working::section_of` meets its contract: the natural depth is that of the definition.
-use borrow.Author.Rules.{rules}
 use Rattle.design.proofs.working.section_of.Goals as goal
 
 pub returns : goal.returns

@@ -1,5 +1,4 @@
 -- `design::working::width_at` meets its contract: the width of the sheet's stretch.
-use borrow.Author.Rules.{rules}
 use Rattle.design.proofs.working.width_at.Goals as goal
 
 pub returns : goal.returns
