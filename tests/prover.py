@@ -28,6 +28,10 @@ def edits():
     return {match.groups(): file for match, file in sorted(found, key=lambda pair: pair[0].groups())}
 
 
+class Wrong(Exception):
+    """Why an edit does not do what it must."""
+
+
 def replacements(edit):
     """The replacements of an edit, each a file of the crate, the old text and the new one."""
     file = old = None
@@ -38,6 +42,26 @@ def replacements(edit):
             old = text
         else:
             yield file, old, text
+
+
+def edited(edit, folder):
+    """What an edit makes of the files of its crate's folder, by their names there; each old text must stand once."""
+    made = {}
+    strange = [line for line in read(edit).splitlines() if line and not re.match(r"#|(file|old): .|new:( |$)", line)]
+    if strange:
+        raise Wrong(f"it has a line that is not read: {strange[0]}")
+    for file, old, new in replacements(edit):
+        if not file or ".." in file or file.split("/")[0] not in ("src", "specs", "proofs") or not os.path.isfile(f"{folder}/{file}"):
+            raise Wrong(f"{file} is no file of the crate")
+        text = made.get(file) or read(f"{folder}/{file}")
+        if not old or text.count(old) != 1:
+            raise Wrong(f"its 'old:' text stands {text.count(old) if old else 0} times in {file}: {old}")
+        made[file] = text.replace(old, new)
+    if not made:
+        raise Wrong("it has no 'old:' and 'new:' pair")
+    if all(text == read(f"{folder}/{file}") for file, text in made.items()):
+        raise Wrong("it changes nothing")
+    return made
 
 
 # ---- the copy, and what is run in it
