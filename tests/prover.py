@@ -1,6 +1,6 @@
 """What the tests share that ask the prover about wrong programs: the copy of the tree, a command run in it, the edits
 and the first error. They run in the repository's root."""
-import glob, os, re, shutil, signal, subprocess, threading
+import atexit, glob, os, re, shutil, signal, subprocess, tempfile, threading
 
 
 def read(file):
@@ -67,14 +67,12 @@ def edited(edit, folder):
 # ---- the copy, and what is run in it
 
 def make_copy(tree, folders, files):
+    """Makes a copy of parts of the tree outside the checkout, without what is kept of proofs: rt finds that itself, by the sums of the files."""
     for part in folders:
         shutil.rmtree(f"{tree}/{part}", ignore_errors=True)
-        shutil.copytree(part, f"{tree}/{part}")
+        shutil.copytree(part, f"{tree}/{part}", ignore=shutil.ignore_patterns("out"))
     for part in files:
         shutil.copy(part, tree)
-    for part in ("rlib", "stamp", "bin"):  # what is proved need not be proved again: rt goes by the sums of the files
-        if os.path.isdir(f"target/{part}") and not os.path.isdir(f"{tree}/target/{part}"):
-            shutil.copytree(f"target/{part}", f"{tree}/target/{part}")
 
 
 starting, sessions = threading.Lock(), set()
@@ -90,12 +88,11 @@ def end(session):
             pass  # it has ended by itself
 
 
-def run(words, tree, limit, **environment):
-    """The status and the output of a command in a copy; no status where it took too long."""
+def run(words, folder, limit=None, **environment):
+    """The status and the output of a command in a folder of a copy; no status where it took too long."""
     with starting:
-        started = subprocess.Popen(words, cwd=tree, stdin=subprocess.DEVNULL, stdout=subprocess.PIPE,
-                                   stderr=subprocess.STDOUT, start_new_session=True,
-                                   env=dict(os.environ, RT_JOBS="1", RT_CUT="0", **environment))
+        started = subprocess.Popen(words, cwd=folder, stdin=subprocess.DEVNULL, stdout=subprocess.PIPE,
+                                   stderr=subprocess.STDOUT, start_new_session=True, env=dict(os.environ, **environment))
         sessions.add(started.pid)
     try:
         output = started.communicate(timeout=limit)[0]
@@ -107,11 +104,27 @@ def run(words, tree, limit, **environment):
         sessions.discard(started.pid)
 
 
+copies = []
+
+
+def copy_for(name):
+    """A new folder outside the checkout, in which no file of Rattle's may lie but in the crates; it goes when the test ends."""
+    copies.append(tempfile.mkdtemp(prefix=f"channel-{name}-"))
+    return copies[-1]
+
+
+@atexit.register
+def remove_copies():
+    for tree in copies:
+        shutil.rmtree(tree, ignore_errors=True)
+
+
 def stop_all(*_):
     """Where a signal ends a test whose commands other threads run: nothing starts any more, and what runs ends with it."""
     starting.acquire()
     for session in list(sessions):
         end(session)
+    remove_copies()
     os._exit(1)
 
 
