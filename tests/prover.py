@@ -104,6 +104,11 @@ def run(words, folder, limit=None, **environment):
         sessions.discard(started.pid)
 
 
+def linked(kept, to):
+    """Copies what a check kept, what it proved by links: a check replaces such a file, and changes none."""
+    shutil.copytree(kept, to, copy_function=lambda one, other: (os.link if one.endswith(".oantt") else shutil.copy2)(one, other))
+
+
 copies = []
 
 
@@ -130,23 +135,21 @@ def stop_all(*_):
 
 # ---- the prover's words
 
-# Where a step of a proof no longer fits the code: it is no fact that fails first there.
-STEP_LOST = re.compile("no occurrence of the path|has no `Need-|has no field")
+# Where a step of a proof no longer fits the code: it is no fact that fails there.
+STEP_LOST = re.compile("no occurrence of the path|has no `|has no field|that can be named from here|is not in scope")
 
 
-def errors(output, crate):
+def errors(output):
     """The errors in their order, each by its file, its line and its words, which the prover may break over lines that begin with spaces;
     behind them what it says of the code. That a citing proof is not admitted is no reason."""
     output = re.sub(r"\n +", " ", output)
-    found = re.findall(r"^(\S*?):(\d+):\d+: (error(?!.*was not admitted).*)$", output, re.M)
-    found += re.findall(r"^note: (\S*?):(\d+):\d+: (.*)$", output, re.M)
-    return [(file.split(f"crates/{crate}/")[-1], int(line), re.sub("^error: ", "", words)[:300]) for file, line, words in found]
+    found = re.findall(r"^(?:\./)?(\S*?):(\d+):\d+: (error(?!.*was not admitted).*)$", output, re.M)
+    found += re.findall(r"^note: (?:\./)?(\S*?):(\d+):\d+: (.*)$", output, re.M)
+    return [f"{file}:{line}: {re.sub('^error: ', '', words)[:300]}" for file, line, words in found]
 
 
-def refusal(output, crate, own=lambda file, line: True):
-    """By the prover, or before it by the types or the form; and the first error, of those in the place that is asked about."""
-    kind = "prover" if "logic=not-proved" in output else "types"
-    for file, line, words in errors(output, crate):
-        if own(file, line):
-            return kind, f"{file}:{line}: {words}"
-    return kind, " ".join(output.split()[-12:])
+def refusal(output):
+    """By the prover, or before it by the types or the form; and the first error, of a fact where there is one."""
+    kind, found = "prover" if "logic=not-proved" in output else "types", errors(output)
+    facts = [error for error in found if not STEP_LOST.search(error)]
+    return kind, next(iter(facts + found), " ".join(output.split()[-12:]))
