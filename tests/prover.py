@@ -1,6 +1,6 @@
 """What the tests share that ask the prover about wrong programs: the copy of the tree, a command run in it, the edits
 and the first error. They run in the repository's root."""
-import glob, os, re, shutil, signal, subprocess, threading
+import atexit, glob, os, re, shutil, signal, subprocess, tempfile, threading
 
 
 def read(file):
@@ -28,6 +28,10 @@ def edits():
     return {match.groups(): file for match, file in sorted(found, key=lambda pair: pair[0].groups())}
 
 
+class Wrong(Exception):
+    """Why an edit does not do what it must."""
+
+
 def replacements(edit):
     """The replacements of an edit, each a file of the crate, the old text and the new one."""
     file = old = None
@@ -40,17 +44,35 @@ def replacements(edit):
             yield file, old, text
 
 
+def edited(edit, folder):
+    """What an edit makes of the files of its crate's folder, by their names there; each old text must stand once."""
+    made = {}
+    strange = [line for line in read(edit).splitlines() if line and not re.match(r"#|(file|old): .|new:( |$)", line)]
+    if strange:
+        raise Wrong(f"it has a line that is not read: {strange[0]}")
+    for file, old, new in replacements(edit):
+        if not file or ".." in file or file.split("/")[0] not in ("src", "specs", "proofs") or not os.path.isfile(f"{folder}/{file}"):
+            raise Wrong(f"{file} is no file of the crate")
+        text = made.get(file) or read(f"{folder}/{file}")
+        if not old or text.count(old) != 1:
+            raise Wrong(f"its 'old:' text stands {text.count(old) if old else 0} times in {file}: {old}")
+        made[file] = text.replace(old, new)
+    if not made:
+        raise Wrong("it has no 'old:' and 'new:' pair")
+    if all(text == read(f"{folder}/{file}") for file, text in made.items()):
+        raise Wrong("it changes nothing")
+    return made
+
+
 # ---- the copy, and what is run in it
 
 def make_copy(tree, folders, files):
+    """Makes a copy of parts of the tree outside the checkout, without what is kept of proofs: rt finds that itself, by the sums of the files."""
     for part in folders:
         shutil.rmtree(f"{tree}/{part}", ignore_errors=True)
-        shutil.copytree(part, f"{tree}/{part}")
+        shutil.copytree(part, f"{tree}/{part}", ignore=shutil.ignore_patterns("out"))
     for part in files:
         shutil.copy(part, tree)
-    for part in ("rlib", "stamp", "bin"):  # what is proved need not be proved again: rt goes by the sums of the files
-        if os.path.isdir(f"target/{part}") and not os.path.isdir(f"{tree}/target/{part}"):
-            shutil.copytree(f"target/{part}", f"{tree}/target/{part}")
 
 
 starting, sessions = threading.Lock(), set()
@@ -66,12 +88,11 @@ def end(session):
             pass  # it has ended by itself
 
 
-def run(words, tree, limit, **environment):
-    """The status and the output of a command in a copy; no status where it took too long."""
+def run(words, folder, limit=None, **environment):
+    """The status and the output of a command in a folder of a copy; no status where it took too long."""
     with starting:
-        started = subprocess.Popen(words, cwd=tree, stdin=subprocess.DEVNULL, stdout=subprocess.PIPE,
-                                   stderr=subprocess.STDOUT, start_new_session=True,
-                                   env=dict(os.environ, RT_JOBS="1", RT_CUT="0", **environment))
+        started = subprocess.Popen(words, cwd=folder, stdin=subprocess.DEVNULL, stdout=subprocess.PIPE,
+                                   stderr=subprocess.STDOUT, start_new_session=True, env=dict(os.environ, **environment))
         sessions.add(started.pid)
     try:
         output = started.communicate(timeout=limit)[0]
@@ -83,33 +104,52 @@ def run(words, tree, limit, **environment):
         sessions.discard(started.pid)
 
 
+def linked(kept, to):
+    """Copies what a check kept, what it proved by links: a check replaces such a file, and changes none."""
+    shutil.copytree(kept, to, copy_function=lambda one, other: (os.link if one.endswith(".oantt") else shutil.copy2)(one, other))
+
+
+copies = []
+
+
+def copy_for(name):
+    """A new folder outside the checkout, in which no file of Rattle's may lie but in the crates; it goes when the test ends."""
+    copies.append(tempfile.mkdtemp(prefix=f"channel-{name}-"))
+    return copies[-1]
+
+
+@atexit.register
+def remove_copies():
+    for tree in copies:
+        shutil.rmtree(tree, ignore_errors=True)
+
+
 def stop_all(*_):
     """Where a signal ends a test whose commands other threads run: nothing starts any more, and what runs ends with it."""
     starting.acquire()
     for session in list(sessions):
         end(session)
+    remove_copies()
     os._exit(1)
 
 
 # ---- the prover's words
 
-# Where a step of a proof no longer fits the code: it is no fact that fails first there.
-STEP_LOST = re.compile("no occurrence of the path|has no `Need-|has no field")
+# Where a step of a proof no longer fits the code: it is no fact that fails there.
+STEP_LOST = re.compile("no occurrence of the path|has no `|has no field|that can be named from here|is not in scope")
 
 
-def errors(output, crate):
+def errors(output):
     """The errors in their order, each by its file, its line and its words, which the prover may break over lines that begin with spaces;
     behind them what it says of the code. That a citing proof is not admitted is no reason."""
     output = re.sub(r"\n +", " ", output)
-    found = re.findall(r"^(\S*?):(\d+):\d+: (error(?!.*was not admitted).*)$", output, re.M)
-    found += re.findall(r"^note: (\S*?):(\d+):\d+: (.*)$", output, re.M)
-    return [(file.split(f"crates/{crate}/")[-1], int(line), re.sub("^error: ", "", words)[:300]) for file, line, words in found]
+    found = re.findall(r"^(?:\./)?(\S*?):(\d+):\d+: (error(?!.*was not admitted).*)$", output, re.M)
+    found += re.findall(r"^note: (?:\./)?(\S*?):(\d+):\d+: (.*)$", output, re.M)
+    return [f"{file}:{line}: {re.sub('^error: ', '', words)[:300]}" for file, line, words in found]
 
 
-def refusal(output, crate, own=lambda file, line: True):
-    """By the prover, or before it by the types or the form; and the first error, of those in the place that is asked about."""
-    kind = "prover" if "logic=not-proved" in output else "types"
-    for file, line, words in errors(output, crate):
-        if own(file, line):
-            return kind, f"{file}:{line}: {words}"
-    return kind, " ".join(output.split()[-12:])
+def refusal(output):
+    """By the prover, or before it by the types or the form; and the first error, of a fact where there is one."""
+    kind, found = "prover" if "logic=not-proved" in output else "types", errors(output)
+    facts = [error for error in found if not STEP_LOST.search(error)]
+    return kind, next(iter(facts + found), " ".join(output.split()[-12:]))

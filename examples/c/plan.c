@@ -1,6 +1,6 @@
 /* A planning program in C: reads sheets from standard input and says of each what it needs, or why not.
  *
- *     cc -I include examples/c/plan.c target/staticlib/libplan.a -o plan && ./plan <examples/sheets.bin
+ *     cc -I include examples/c/plan.c crates/plan/out/libplan.a -o plan && ./plan <examples/sheets.bin
  */
 #include <channel.h>
 #include <stdio.h>
