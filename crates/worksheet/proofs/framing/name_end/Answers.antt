@@ -12,4 +12,4 @@ returns-then-name-le-NAME c = rw (le-leb _ _ c.if-name-le-NAME.true) (refl, (ome
 
 pub returns : goal.returns
 unfolding name_end
-returns c = rw (lt-leb _ _ c.if-name-le-NAME.false) (c.IsWhole-to.ensures.0, (omega arith, omega arith))
+returns c = rw (lt-leb _ _ c.if-name-le-NAME.false) (c.whole_to.ensures.0, (omega arith, omega arith))
