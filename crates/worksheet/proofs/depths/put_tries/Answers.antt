@@ -14,10 +14,10 @@ pub loop-i-preserved : goal.loop-i-preserved
 loop-i-preserved c =
     let l = c.loop-i in
     let p = c.put_try-end.ensures in
-    let sized : length c.args.worksheet.tries ≡ 3 = simp length-map at c.well_formed.0.1.1.0.1.0.1 in
+    let sized : length c.args.worksheet.tries ≡ 3 = c.well_formed.0.1.1.0.1.0.1 in
     (omega arith, omega arith, omega arith, one_tried l.invariant.3 (omega arith) _ (omega arith) p.0 (omega arith))
 
 pub returns : goal.returns
 returns c =
-    let sized : length c.args.worksheet.tries ≡ 3 = simp length-map at c.well_formed.0.1.1.0.1.0.1 in
+    let sized : length c.args.worksheet.tries ≡ 3 = c.well_formed.0.1.1.0.1.0.1 in
     (all_tried c.loop-i.invariant.3 (omega arith) (omega arith), omega arith)
