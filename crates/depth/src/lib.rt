@@ -161,6 +161,7 @@ fn squat_reading(lanes: Lanes) -> usize
 }
 
 // The squat of a column at a speed; a speed outside the table has no entry.
+#[tactic(auto, using(crate::proofs::squat::Table::too_slow, crate::proofs::squat::Table::too_fast))]
 pub fn squat_of(lanes: Lanes, column: Column, speed: u8) -> u16
     ensures { result ≡ squat_of lanes column speed }
 {
@@ -244,6 +245,7 @@ fn sailing_depth(stretch: Stretch, squat: u16) -> ReckonedDepth
 
 // The silt z4 of a column's figure, the least cut that is at least s + z4, where z4 is silting × interval × (cut - N) / 100,000,
 // rounded up. With s + z4 for the cut this comes to silting × interval × (s - N) / (100,000 - silting × interval).
+#[tactic(auto, using(crate::proofs::cuts::Settling::not_dug, crate::proofs::cuts::Settling::fills_up))]
 fn silt_over(stretch: Stretch, sailing: ReckonedDepth) -> u64
     requires { sailing.0 < 2 ^ 19 }
     ensures { (result ≡ silt_over stretch sailing.0) × (result < 2 ^ 40) }
@@ -300,6 +302,7 @@ fn blank_try() -> Try
 }
 
 // The limits of a column in the order of the worksheet, and then where its figure falls.
+#[tactic(auto, using(crate::proofs::walks::Findings::no_entry, crate::proofs::walks::Findings::too_much_silt, crate::proofs::walks::Findings::too_deep, crate::proofs::walks::Findings::stays, crate::proofs::walks::Findings::moves))]
 pub fn finding_of(tried: Try) -> Finding
     ensures { result ≡ finding_of tried }
 {

@@ -119,6 +119,7 @@ fn is_deep(stretch: Stretch, column: Column, d: u64) -> bool
 }
 
 // Whether a column serves a cut d: it has an entry, z4 is at most 120, and d is deep enough.
+#[tactic(auto, using(crate::proofs::Tests::no_entry, crate::proofs::Tests::much_silt))]
 fn serves_cut(stretch: Stretch, column: Column, d: u64) -> bool
     requires { d < 2 ^ 20 }
     ensures { result ≡ serves stretch column d }

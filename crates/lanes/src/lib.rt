@@ -31,6 +31,7 @@ pub fn lane_count(lanes: Lanes) -> u8
 const TRAFFIC: u64 = 4444800;
 
 // The lanes of a channel: those that are named, else by its length in m, its ships a day in hundredths and their speed in knots.
+#[tactic(auto, unfolding(crate::specs::Lanes::lanes_of))]
 pub fn lane_rule(named: u8, channel: u32, ships: u16, knots: u8) -> Lanes
     ensures { result ≡ lanes_of named channel ships knots }
 {

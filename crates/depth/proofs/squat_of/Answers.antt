@@ -1,14 +1,8 @@
 -- `depth::squat_of` meets its contract: the table is the definition's, and a speed outside it is tested first.
 use native.Mathlib.Omega.{arith}
 use Rattle.depth.proofs.squat.Columns.{column_most, reading_most}
-use Rattle.depth.proofs.squat.Table.{too_slow, too_fast, in_table}
+use Rattle.depth.proofs.squat.Table.{in_table}
 use Rattle.depth.proofs.squat_of.Goals as goal
-
-pub returns-then-speed-lt2 : goal.returns-then-speed-lt2
-returns-then-speed-lt2 c = too_slow _ _ _ (omega arith)
-
-pub returns-then-speed-gt12 : goal.returns-then-speed-gt12
-returns-then-speed-gt12 c = too_fast _ _ _ (omega arith)
 
 pub overflow_mul-row : goal.overflow_mul-row
 overflow_mul-row c = omega (arith, column_most c.args.column)
