@@ -2,7 +2,7 @@
 use Rattle.std.specs.Prelude.{ℕ, ◌-◌, ◌*◌, ◌/◌, ◌^◌, ◌<◌, List, [], ◌∷◌, ◌++◌, length, take, drop, replicate}
 use Rattle.std.specs.Int.{w32}
 use Rattle.std.proofs.Common.{SFits}
-use Rattle.laws.specs.Choice.{if◌then◌else◌, ◌<ᵇ◌, ◌=ᵇ◌}
+use Rattle.laws.specs.Choice.{ifᵇ◌then◌else◌, ◌<ᵇ◌, ◌=ᵇ◌}
 use Rattle.lines.specs.Decimals.{count_text, number_text}
 use Rattle.lines.specs.Lines.{space}
 use Rattle.typed.specs.Rows.{bytes_of}
@@ -24,13 +24,13 @@ filled_bytes text = 12 * length text
 -- the columns that a byte asks for: `0` to `9` are 0 to 9, `A` to `O` are 10 to 24, any other is 0
 unfoldable pub width_of : ℕ → ℕ
 width_of byte =
-    if byte <ᵇ 48
+    ifᵇ byte <ᵇ 48
     then 0
-    else (if byte <ᵇ 58 then byte - 48 else (if byte <ᵇ 65 then 0 else (if byte <ᵇ 80 then byte - 55 else 0)))
+    else (ifᵇ byte <ᵇ 58 then byte - 48 else (ifᵇ byte <ᵇ 65 then 0 else (ifᵇ byte <ᵇ 80 then byte - 55 else 0)))
 
 -- a byte in front of what is left of the word behind it: a space goes where nothing is left
 abbrev pub trimmed_by : ℕ → List ℕ → List ℕ
-trimmed_by byte [] = if byte =ᵇ space then [] else byte ∷ []
+trimmed_by byte [] = ifᵇ byte =ᵇ space then [] else byte ∷ []
 trimmed_by byte (next ∷ rest) = byte ∷ next ∷ rest
 
 -- a word without the spaces at its end
@@ -40,7 +40,7 @@ trimmed (byte ∷ word) = trimmed_by byte (trimmed word)
 
 -- the word after the first i of a table; nothing where the table has no more
 unfoldable pub word_at : List ℕ → ℕ → List ℕ
-word_at words i = if i <ᵇ length words / word_bytes then trimmed (take word_bytes (drop (word_bytes * i) words)) else []
+word_at words i = ifᵇ i <ᵇ length words / word_bytes then trimmed (take word_bytes (drop (word_bytes * i) words)) else []
 
 -- the text of a figure; a word is one of the table
 unfoldable pub figure_text : List ℕ → Figure → List ℕ
@@ -86,8 +86,8 @@ next_text words (width ∷ text) (figure ∷ figures) = blank_text words (width_
 -- a text with its blanks filled; every other byte stands as it is, and a `%` at the very end goes
 unfoldable pub filled : List ℕ → List ℕ → List Figure → List ℕ
 filled words [] figures = []
-filled words (byte ∷ []) figures = if byte =ᵇ blank_byte then [] else byte ∷ []
+filled words (byte ∷ []) figures = ifᵇ byte =ᵇ blank_byte then [] else byte ∷ []
 filled words (byte ∷ next ∷ text) figures =
-    if byte =ᵇ blank_byte
+    ifᵇ byte =ᵇ blank_byte
     then next_text words (next ∷ text) figures ++ filled words text (drop 1 figures)
     else byte ∷ filled words (next ∷ text) figures

@@ -5,7 +5,7 @@ use mathlib.Core.List.{List, [], ◌∷◌}
 use mathlib.Core.Logic.{◌≢◌}
 use Prim.Native.Nat.{ℕ}
 use borrow.Author.Tests.{eq-eqb}
-use Rattle.laws.specs.Choice.{if◌then◌else◌}
+use Rattle.laws.specs.Choice.{ifᵇ◌then◌else◌}
 use Rattle.laws.specs.Extremes.{Least}
 use Rattle.laws.proofs.Never.{never}
 use Rattle.datum.specs.declared.BelowLevel.{BelowLevel}
@@ -104,10 +104,10 @@ module _ (bytes : List ℕ) (read : LevelRead) where
     worked_is : (r : Depth) → work_depth (stretch_in come) ≡ r → (both_of bytes read).plain ≡ plain_numbers (uncounted r)
     worked_is r e = plain_is ∙ same_depths (stretch_in come) ∙ ap (λ (w : Depth). plain_numbers (uncounted w)) e
 
-  pub verdict_when : (both_of bytes read).verdict ≡ (if came_to design then Agreed else NotCome)
+  pub verdict_when : (both_of bytes read).verdict ≡ (ifᵇ came_to design then Agreed else NotCome)
   verdict_when = go (came_to design) refl
     where
-      go : (b : Bool) → came_to design ≡ b → (both_of bytes read).verdict ≡ (if b then Agreed else NotCome)
+      go : (b : Bool) → came_to design ≡ b → (both_of bytes read).verdict ≡ (ifᵇ b then Agreed else NotCome)
       go true e = verdict_is e
       go false e = ap (λ (b : Both). b.verdict) (nothing_beside e)
 

@@ -4,7 +4,7 @@ use mathlib.Core.Bool.{true, false}
 use mathlib.Core.List.{List, [], ◌∷◌}
 use mathlib.Core.Logic.{◌↔◌, ◌≢◌}
 use Prim.Native.Nat.{ℕ}
-use Rattle.laws.specs.Choice.{if◌then◌else◌}
+use Rattle.laws.specs.Choice.{ifᵇ◌then◌else◌}
 use Rattle.laws.specs.Extremes.{Least}
 use Rattle.laws.proofs.Unique.{one_answer}
 use Rattle.gauge.specs.declared.LevelRead.{LevelRead}
@@ -44,7 +44,7 @@ module _ (bytes : List ℕ) (read : LevelRead) where
   same_answer = agreeing.answer_is bytes read
 
   -- Where the sheet came to its depth, the two engines agree; where it did not, there is nothing to compare. They never differ.
-  pub verdict_exactly : (both_of bytes read).verdict ≡ (if came_to (design_at bytes read) then Agreed else NotCome)
+  pub verdict_exactly : (both_of bytes read).verdict ≡ (ifᵇ came_to (design_at bytes read) then Agreed else NotCome)
   verdict_exactly = agreeing.verdict_when bytes read
 
   pub never_differ : (both_of bytes read).verdict ≢ Differed

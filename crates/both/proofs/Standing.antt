@@ -3,7 +3,7 @@ use mathlib.Core.Path.{◌≡◌, refl}
 use mathlib.Core.Bool.{Bool, true, false}
 use mathlib.Core.List.{List}
 use Prim.Native.Nat.{ℕ, ◌*◌}
-use Rattle.laws.specs.Choice.{if◌then◌else◌, ◌<ᵇ◌}
+use Rattle.laws.specs.Choice.{ifᵇ◌then◌else◌, ◌<ᵇ◌}
 use Rattle.laws.proofs.Never.{never}
 use Rattle.datum.specs.declared.Level.{Level}
 use Rattle.sheet.specs.Sheets.{read_of}
@@ -87,8 +87,8 @@ module _ (bytes : List ℕ) (read : LevelRead) where
       go (Found level) e came is = record { at = record { sheet = s; was_read = good; level = level; had = e }; designed = is }
       go (NotFound fault) e came is = never cc
 
-  was_ship : (s : Sheet) → read_of bytes ≡ Good s → (b : Bool) → design_at bytes read ≡ (if b then Refused NoShip else by_level s (level_for s.level read))
-      → came_to (if b then Refused NoShip else by_level s (level_for s.level read)) ≡ true → Reached bytes read
+  was_ship : (s : Sheet) → read_of bytes ≡ Good s → (b : Bool) → design_at bytes read ≡ (ifᵇ b then Refused NoShip else by_level s (level_for s.level read))
+      → came_to (ifᵇ b then Refused NoShip else by_level s (level_for s.level read)) ≡ true → Reached bytes read
   was_ship s good true is came = never cc
   was_ship s good false is came = had_level s good is came
 

@@ -1,6 +1,6 @@
 -- The two engines beside each other on one sheet (section 16.2).
 use Rattle.std.specs.Prelude.{ℕ, ◌≤◌, ◌≡◌, ◌⊎◌, Bool, true, false, List, [], ◌∷◌, get_or}
-use Rattle.laws.specs.Choice.{if◌then◌else◌, ◌=ᵇ◌}
+use Rattle.laws.specs.Choice.{ifᵇ◌then◌else◌, ◌=ᵇ◌}
 use Rattle.datum.specs.declared.Level.{Level}
 use Rattle.sheet.specs.Sheets.{read_of}
 use Rattle.sheet.specs.declared.Sheet.{Sheet}
@@ -47,12 +47,12 @@ uncounted (NoCut fault) = Unmet fault
 -- two depths have the same refusal, sailing depth and cut
 unfoldable pub same_numbers : List ℕ → List ℕ → Bool
 same_numbers worked plain =
-    if get_or worked 0 0 =ᵇ get_or plain 0 0
-    then (if get_or worked 1 0 =ᵇ get_or plain 1 0 then get_or worked 2 0 =ᵇ get_or plain 2 0 else false)
+    ifᵇ get_or worked 0 0 =ᵇ get_or plain 0 0
+    then (ifᵇ get_or worked 1 0 =ᵇ get_or plain 1 0 then get_or worked 2 0 =ᵇ get_or plain 2 0 else false)
     else false
 
 unfoldable pub verdict_of : List ℕ → List ℕ → Verdict
-verdict_of worked plain = if same_numbers worked plain then Agreed else Differed
+verdict_of worked plain = ifᵇ same_numbers worked plain then Agreed else Differed
 
 -- refused before its depth: the plain engine's numbers are 0
 abbrev pub not_come : Answer → Both
@@ -78,7 +78,7 @@ by_reading answer (Unread fault) read = not_come answer
 
 -- the design of a sheet, and the plain engine beside it
 abbrev pub beside : List ℕ → LevelRead → Answer → Both
-beside bytes read answer = if came_to answer then by_reading answer (read_of bytes) read else not_come answer
+beside bytes read answer = ifᵇ came_to answer then by_reading answer (read_of bytes) read else not_come answer
 
 unfoldable pub both_of : List ℕ → LevelRead → Both
 both_of bytes read = beside bytes read (design_at bytes read)

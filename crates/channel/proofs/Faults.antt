@@ -7,7 +7,7 @@ use mathlib.Core.Logic.{◌↔◌}
 use Prim.Native.Nat.{ℕ, ◌≤◌, ◌<◌}
 use native.Mathlib.Omega.{arith}
 use lib.ListN.{length, replicate, length-replicate}
-use Rattle.laws.specs.Choice.{if◌then◌else◌}
+use Rattle.laws.specs.Choice.{ifᵇ◌then◌else◌}
 use Rattle.laws.proofs.Never.{never}
 use Rattle.lines.specs.Lines.{place_within, buffer_within}
 use Rattle.texts.specs.Shown.{sheet_bytes, sheet_text}
@@ -52,21 +52,21 @@ module _ (text : List ℕ) (cursor : Cursor) (found : Found) (f : found ≡ next
   fewer_left e = omega (arith, ap length (one_found e))
 
   -- whether a fault was told, or is among what is left
-  pub fault_told : (told later : Bool) → is_over found.event ≡ false → later ≡ (if told then true else is_fault found.event)
-      → (if later then true else any_fault (all_from text found.cursor)) ≡ (if told then true else any_fault (all_from text cursor))
+  pub fault_told : (told later : Bool) → is_over found.event ≡ false → later ≡ (ifᵇ told then true else is_fault found.event)
+      → (ifᵇ later then true else any_fault (all_from text found.cursor)) ≡ (ifᵇ told then true else any_fault (all_from text cursor))
   unfolding any_fault
   fault_told told later e l = rw (one_found e, l) (go told (is_fault found.event) (any_fault (all_from text found.cursor)))
     where
-      go : (a b c : Bool) → (if (if a then true else b) then true else c) ≡ (if a then true else (if b then true else c))
+      go : (a b c : Bool) → (ifᵇ (ifᵇ a then true else b) then true else c) ≡ (ifᵇ a then true else (ifᵇ b then true else c))
       go true b c = refl
       go false true c = refl
       go false false c = refl
 
-  pub all_told : (told : Bool) → is_over found.event ≡ true → told ≡ (if told then true else any_fault (all_from text cursor))
+  pub all_told : (told : Bool) → is_over found.event ≡ true → told ≡ (ifᵇ told then true else any_fault (all_from text cursor))
   unfolding any_fault
   all_told told e = rw (none_found e) (go told)
     where
-      go : (a : Bool) → a ≡ (if a then true else false)
+      go : (a : Bool) → a ≡ (ifᵇ a then true else false)
       go true = refl
       go false = refl
 
@@ -108,7 +108,7 @@ unfolding any_fault faults_of
 no_fault [] e = refl
 no_fault (found ∷ all) e = go found.event e (no_fault all)
   where
-    go : (event : Event) → (if is_fault event then true else any_fault all) ≡ false → (any_fault all ≡ false → faults_of all ≡ [])
+    go : (event : Event) → (ifᵇ is_fault event then true else any_fault all) ≡ false → (any_fault all ≡ false → faults_of all ≡ [])
         → fault_in event found ++ faults_of all ≡ []
     go Nothing e further = further e
     go Sheet e further = further e
@@ -120,7 +120,7 @@ none_told [] e = refl
 none_told (found ∷ all) e = go found.event e (none_told all)
   where
     go : (event : Event) → fault_in event found ++ faults_of all ≡ [] → (faults_of all ≡ [] → any_fault all ≡ false)
-        → (if is_fault event then true else any_fault all) ≡ false
+        → (ifᵇ is_fault event then true else any_fault all) ≡ false
     go Nothing e further = further e
     go Sheet e further = further e
     go (Fault fault row) e further = never cc

@@ -6,7 +6,7 @@ use Prim.Native.Nat.{ℕ, ◌+◌, ◌≤◌, min}
 use native.Mathlib.Omega.{arith}
 use borrow.Author.Tests.{ne_eqb}
 use lib.ListN.{length}
-use Rattle.laws.specs.Choice.{if◌then◌else◌, ◌=ᵇ◌}
+use Rattle.laws.specs.Choice.{ifᵇ◌then◌else◌, ◌=ᵇ◌}
 use Rattle.laws.proofs.Never.{never}
 use Rattle.class.specs.Classes.{with_ship}
 use Rattle.gauge.specs.declared.LevelRead.{LevelRead}
@@ -31,7 +31,7 @@ one_sheet route (Answered f) = refl
 one_sheet route (Refused r) = refl
 
 one_answered : (route : Route) (answer : Answer) → route.answered ≤ greatest
-    → (with_sheet route answer).answered ≡ min greatest (route.answered + (if code_of answer =ᵇ 0 then 1 else 0))
+    → (with_sheet route answer).answered ≡ min greatest (route.answered + (ifᵇ code_of answer =ᵇ 0 then 1 else 0))
 one_answered route (Answered f) h = refl
 one_answered route (Refused r) h = rw (ne_eqb (code_of (Refused r)) 0 (λ e. never (let same = ((zero_when_answered (Refused r)).0 e).1 in cc))) (omega arith)
 
@@ -44,7 +44,7 @@ one_agreed agreed Agreed h = refl
 one_agreed agreed NotCome h = omega arith
 one_agreed agreed Differed h = omega arith
 
-one_came : (came : Bool) → one_if_agreed (if came then Agreed else NotCome) ≡ (if came then 1 else 0)
+one_came : (came : Bool) → one_if_agreed (ifᵇ came then Agreed else NotCome) ≡ (ifᵇ came then 1 else 0)
 one_came true = refl
 one_came false = refl
 

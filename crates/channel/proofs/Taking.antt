@@ -5,7 +5,7 @@ use mathlib.Core.List.{List, [], ◌∷◌, ◌++◌}
 use Prim.Native.Nat.{ℕ, ◌+◌, ◌-◌, ◌*◌, ◌≤◌, ◌<◌, min}
 use native.Mathlib.Omega.{arith}
 use lib.ListN.{length, take, drop, length-drop}
-use Rattle.laws.specs.Choice.{if◌then◌else◌}
+use Rattle.laws.specs.Choice.{ifᵇ◌then◌else◌}
 use Rattle.channel.specs.Input.{Filling, SoFar, Reading}
 use Rattle.channel.specs.Text.{sheets_of}
 use Rattle.channel.specs.Printing.{input_block, printed_count}
@@ -66,7 +66,7 @@ module _ {S : Type 0} (t : Putting S) where
           ∙ ap (λ (sheets : List (List ℕ)). t.put sheets p) (sym (in_two (n * 2340) bytes these (omega arith)))
 
       pub taken_on : (taken whole more : Bool) → length space ≡ input_block → SoFar input_block (λ (bytes : List ℕ). q ≡ put_of bytes p)
-          → whole ≡ (if filled.failed then false else taken) → more ≡ (if filled.ended then false else whole)
+          → whole ≡ (ifᵇ filled.failed then false else taken) → more ≡ (ifᵇ filled.ended then false else whole)
           → Reading input_block (λ (bytes : List ℕ). r ≡ put_of bytes p) more whole
       taken_on taken whole more as_long so_far w m =
           block_more input_block (λ (bytes : List ℕ). q ≡ put_of bytes p) (λ (bytes : List ℕ). r ≡ put_of bytes p) filled space filling as_long

@@ -1,6 +1,6 @@
 -- Lines in a buffer: where each stands, and what is written when the next does not fit behind it.
 use Rattle.std.specs.Prelude.{ℕ, ◌+◌, List, [], ◌∷◌, ◌++◌, length, take}
-use Rattle.laws.specs.Choice.{if◌then◌else◌, ◌≤ᵇ◌}
+use Rattle.laws.specs.Choice.{ifᵇ◌then◌else◌, ◌≤ᵇ◌}
 use Rattle.lines.specs.Lines.{place_within, buffer_within}
 
 -- the place of the next line, and the buffer
@@ -16,11 +16,11 @@ standing l = take l.at l.buffer
 module _ (room : ℕ) where
   -- the place for a line: where it is, or the beginning once what stands there is written
   abbrev pub place_for : List ℕ → ℕ → ℕ
-  place_for buffer at = if at + room ≤ᵇ length buffer then at else 0
+  place_for buffer at = ifᵇ at + room ≤ᵇ length buffer then at else 0
 
   -- what is written then
   abbrev pub written_for : List ℕ → ℕ → List ℕ
-  written_for buffer at = if at + room ≤ᵇ length buffer then [] else take at buffer
+  written_for buffer at = ifᵇ at + room ≤ᵇ length buffer then [] else take at buffer
 
   -- one line more, and all lines
   unfoldable pub with_line : List ℕ → Lines → Lines

@@ -2,7 +2,7 @@
 -- engine's figures.
 use Rattle.std.specs.Prelude.{ℕ, zero, suc, ◌+◌, length, take, drop}
 use mathlib.Core.List.{List, [], ◌∷◌, ◌++◌, map, flatten}
-use Rattle.laws.specs.Choice.{if◌then◌else◌, ◌=ᵇ◌}
+use Rattle.laws.specs.Choice.{ifᵇ◌then◌else◌, ◌=ᵇ◌}
 use Rattle.laws.specs.Rounding.{up}
 use Rattle.gauge.specs.Table.{empty_table}
 use Rattle.gauge.specs.Designing.{design_level}
@@ -57,12 +57,12 @@ module _ (level : LevelRead) where
   -- how many have code 0
   unfoldable pub how_many_answered : List (List ℕ) → ℕ
   how_many_answered [] = 0
-  how_many_answered (sheet ∷ sheets) = (if code_of (design_at sheet level) =ᵇ 0 then 1 else 0) + how_many_answered sheets
+  how_many_answered (sheet ∷ sheets) = (ifᵇ code_of (design_at sheet level) =ᵇ 0 then 1 else 0) + how_many_answered sheets
 
   -- how many came to their depth
   unfoldable pub how_many_came : List (List ℕ) → ℕ
   how_many_came [] = 0
-  how_many_came (sheet ∷ sheets) = (if came_to (design_at sheet level) then 1 else 0) + how_many_came sheets
+  how_many_came (sheet ∷ sheets) = (ifᵇ came_to (design_at sheet level) then 1 else 0) + how_many_came sheets
 
 -- the line of a sheet: its index and its numbers, and by both engines the plain engine's behind them
 abbrev pub sheet_line_in : Form → ℕ → List ℕ → LevelRead → List ℕ

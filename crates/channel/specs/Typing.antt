@@ -1,6 +1,6 @@
 -- A text that is typed: its faults are told, or its bytes are written (section 14.3).
 use Rattle.std.specs.Prelude.{ℕ, ◌≡◌, Bool, true, false, List, [], ◌∷◌, ◌++◌, map, take}
-use Rattle.laws.specs.Choice.{if◌then◌else◌}
+use Rattle.laws.specs.Choice.{ifᵇ◌then◌else◌}
 use Rattle.texts.specs.Shown.{sheet_bytes, sheet_text}
 use Rattle.texts.specs.Texts.{all_of}
 use Rattle.texts.specs.Typed.{sheet_in, sheets_of, typed_bytes}
@@ -26,7 +26,7 @@ is_fault (Fault fault row) = true
 -- a fault is among what was found
 unfoldable pub any_fault : List Found → Bool
 any_fault [] = false
-any_fault (found ∷ all) = if is_fault found.event then true else any_fault all
+any_fault (found ∷ all) = ifᵇ is_fault found.event then true else any_fault all
 
 -- the place of what comes next, and the buffer
 abbrev pub lines_at : Out → List ℕ → Lines

@@ -1,6 +1,6 @@
 // Reading a file or a pipe in blocks: a short read, a slow writer or an interrupted call changes nothing.
 ghost use Rattle.std.specs.Prelude.{◌≡◌, false, ◌-◌, ◌<◌, length, take};
-ghost use Rattle.laws.specs.Choice.{if◌then◌else◌};
+ghost use Rattle.laws.specs.Choice.{ifᵇ◌then◌else◌};
 ghost use Rattle.channel.specs.Input.{GotWithin, Filling};
 
 // As many turns as 64 bits hold, so that each loop ends; no input comes in as many parts.
@@ -100,7 +100,7 @@ pub fn fill(fd: i32, space: &mut [u8]) -> Filled
 
 // Whether no read failed, and what was filled could be taken further.
 pub fn is_whole(filled: Filled, taken: bool) -> bool
-    ensures { result ≡ (if filled.failed then false else taken) }
+    ensures { result ≡ (ifᵇ filled.failed then false else taken) }
 {
     if filled.failed {
         return false;
@@ -110,7 +110,7 @@ pub fn is_whole(filled: Filled, taken: bool) -> bool
 
 // Whether there is more to read.
 pub fn goes_on(filled: Filled, whole: bool) -> bool
-    ensures { result ≡ (if filled.ended then false else whole) }
+    ensures { result ≡ (ifᵇ filled.ended then false else whole) }
 {
     if filled.ended {
         return false;

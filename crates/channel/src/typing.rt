@@ -1,6 +1,6 @@
 // A typed text, as the bytes of its sheets (definition, section 14.3).
 ghost use Rattle.std.specs.Prelude.{◌≡◌, true, ◌≤◌, length};
-ghost use Rattle.laws.specs.Choice.{if◌then◌else◌};
+ghost use Rattle.laws.specs.Choice.{ifᵇ◌then◌else◌};
 ghost use Rattle.texts.specs.Texts.{all_of};
 ghost use Rattle.texts.specs.Shown.{sheet_bytes, sheet_text};
 ghost use Rattle.channel.specs.Output.{with_line};
@@ -49,7 +49,7 @@ pub fn is_over(event: Event) -> bool
 }
 
 fn either(a: bool, b: bool) -> bool
-    ensures { result ≡ (if a then true else b) }
+    ensures { result ≡ (ifᵇ a then true else b) }
 {
     if a {
         return true;

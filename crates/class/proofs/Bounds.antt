@@ -6,7 +6,7 @@ use Prim.Native.Nat.{ℕ, ◌≤◌, ◌<◌}
 use native.Mathlib.Omega.{arith}
 use borrow.Author.Tests.{leb-true, leb-false}
 use lib.Dec.{leb}
-use Rattle.laws.specs.Choice.{if◌then◌else◌, ◌=ᵇ◌}
+use Rattle.laws.specs.Choice.{ifᵇ◌then◌else◌, ◌=ᵇ◌}
 use Rattle.class.specs.Classes.{class_by, limits, limits_by, Around, InClass, is_special, is_first, is_second, is_third, is_last}
 
 module _ (special first second third figure : ℕ) where
@@ -15,7 +15,7 @@ module _ (special first second third figure : ℕ) where
   given_class = go (leb special figure) (leb first figure) (leb second figure) (leb third figure) refl refl refl refl
     where
       go : (a b c d : Bool) → leb special figure ≡ a → leb first figure ≡ b → leb second figure ≡ c → leb third figure ≡ d
-          → InClass special first second third figure (if a then 0 else (if b then 1 else (if c then 2 else (if d then 3 else 4))))
+          → InClass special first second third figure (ifᵇ a then 0 else (ifᵇ b then 1 else (ifᵇ c then 2 else (ifᵇ d then 3 else 4))))
       go true b c d p q r t = is_special (leb-true special figure p)
       go false true c d p q r t = is_first (leb-true first figure q) (leb-false special figure p)
       go false false true d p q r t = is_second (leb-true second figure r) (leb-false first figure q)
@@ -69,10 +69,10 @@ module _ (special first second third figure : ℕ) where
   -- the limits that a class means
   abbrev Bounded : ℕ → Type 0
   Bounded k =
-      if k =ᵇ 0 then (special ≤ figure) else
-      (if k =ᵇ 1 then ((first ≤ figure) × (figure < special)) else
-      (if k =ᵇ 2 then ((second ≤ figure) × (figure < first)) else
-      (if k =ᵇ 3 then ((third ≤ figure) × (figure < second)) else (figure < third))))
+      ifᵇ k =ᵇ 0 then (special ≤ figure) else
+      (ifᵇ k =ᵇ 1 then ((first ≤ figure) × (figure < special)) else
+      (ifᵇ k =ᵇ 2 then ((second ≤ figure) × (figure < first)) else
+      (ifᵇ k =ᵇ 3 then ((third ≤ figure) × (figure < second)) else (figure < third))))
 
   bounded : (k : ℕ) → InClass special first second third figure k → Bounded k
   bounded k (is_special a) = a
@@ -113,8 +113,8 @@ module _ (special first second third : ℕ) (falling : (first ≤ special) × (s
     where
       go : (a b c d : Bool) → leb special figure ≡ a → leb first figure ≡ b → leb second figure ≡ c → leb third figure ≡ d
           → Around class_of figure (class_of figure)
-          (if a then limits special 0 else
-          (if b then limits first special else (if c then limits second first else (if d then limits third second else limits 0 third))))
+          (ifᵇ a then limits special 0 else
+          (ifᵇ b then limits first special else (ifᵇ c then limits second first else (ifᵇ d then limits third second else limits 0 third))))
       go true b c d p q r t =
           let h = leb-true special figure p in
           let e = there 0 figure (is_special h) in

@@ -8,7 +8,7 @@ use native.Mathlib.Nat.{le_refl, le_trans}
 use native.Mathlib.Omega.{arith}
 use borrow.Author.Tests.{ltb-true, ltb-false}
 use lib.Dec.{ltb}
-use Rattle.laws.specs.Choice.{if◌then◌else◌}
+use Rattle.laws.specs.Choice.{ifᵇ◌then◌else◌}
 use Rattle.laws.specs.Extremes.{Least}
 use Rattle.class.specs.Classes.{with_ship, route_class}
 
@@ -22,7 +22,7 @@ with_ship_lem : (route ship : ℕ) → Smaller route ship (with_ship route ship)
 unfolding with_ship
 with_ship_lem route ship = go (ltb ship route) refl
   where
-    go : (b : Bool) → ltb ship route ≡ b → Smaller route ship (if b then ship else route)
+    go : (b : Bool) → ltb ship route ≡ b → Smaller route ship (ifᵇ b then ship else route)
     go true e = record { one = inr refl; to_route = omega (arith, ltb-true ship route e); to_ship = le_refl ship }
     go false e = record { one = inl refl; to_route = le_refl route; to_ship = ltb-false ship route e }
 

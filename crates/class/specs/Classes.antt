@@ -1,7 +1,7 @@
 -- Classes, 0 special to 4 (section 7).
 use mathlib.Core.List.{List, foldl}
 use Rattle.std.specs.Prelude.{◌↔◌, ◌≢◌, ◌≡◌, ℕ, ◌≤◌, ◌<◌}
-use Rattle.laws.specs.Choice.{if◌then◌else◌, ◌≤ᵇ◌, ◌<ᵇ◌}
+use Rattle.laws.specs.Choice.{ifᵇ◌then◌else◌, ◌≤ᵇ◌, ◌<ᵇ◌}
 use Rattle.datum.specs.declared.BelowLevel.{BelowLevel}
 use Rattle.lanes.specs.declared.Lanes.{Lanes}
 use Rattle.lanes.specs.declared.Lanes.TheVariants.{One, Two}
@@ -11,8 +11,8 @@ use Rattle.class.specs.declared.Limits.{Limits}
 -- from four figures, 0, 1, 2 and 3; under the last, 4
 unfoldable pub class_by : ℕ → ℕ → ℕ → ℕ → ℕ → ℕ
 class_by special first second third figure =
-    if special ≤ᵇ figure then 0 else
-    (if first ≤ᵇ figure then 1 else (if second ≤ᵇ figure then 2 else (if third ≤ᵇ figure then 3 else 4)))
+    ifᵇ special ≤ᵇ figure then 0 else
+    (ifᵇ first ≤ᵇ figure then 1 else (ifᵇ second ≤ᵇ figure then 2 else (ifᵇ third ≤ᵇ figure then 3 else 4)))
 
 -- ship from 40,000, 20,000, 10,000, 5,000 t
 abbrev pub ship_class : ℕ → ℕ
@@ -46,9 +46,9 @@ limits passed next = record { passed = passed; next = next }
 -- class 0 has no better one, and class 4 no limit
 unfoldable pub limits_by : ℕ → ℕ → ℕ → ℕ → ℕ → Limits
 limits_by special first second third figure =
-    if special ≤ᵇ figure then limits special 0 else
-    (if first ≤ᵇ figure then limits first special else
-    (if second ≤ᵇ figure then limits second first else (if third ≤ᵇ figure then limits third second else limits 0 third)))
+    ifᵇ special ≤ᵇ figure then limits special 0 else
+    (ifᵇ first ≤ᵇ figure then limits first special else
+    (ifᵇ second ≤ᵇ figure then limits second first else (ifᵇ third ≤ᵇ figure then limits third second else limits 0 third)))
 
 -- those of the ship, the width and the depth, from the figures of their classes
 abbrev pub ship_limits : ℕ → Limits
@@ -71,7 +71,7 @@ pub record Around (class_of : ℕ → ℕ) (figure : ℕ) (class : ℕ) (limits 
 
 -- the smaller of a route's class and a ship's
 unfoldable pub with_ship : ℕ → ℕ → ℕ
-with_ship route ship = if ship <ᵇ route then ship else route
+with_ship route ship = ifᵇ ship <ᵇ route then ship else route
 
 -- the route takes the smallest ship class of its answered stretches, 5 if none is answered
 abbrev pub route_class : List ℕ → ℕ

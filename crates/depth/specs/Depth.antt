@@ -1,6 +1,6 @@
 -- Depth below the design level (sections 4.2 to 4.6), all in cm: what the cut is, with no method of finding it.
 use Rattle.std.specs.Prelude.{◌≡◌, ◌⊎◌, ℕ, ◌+◌, ◌*◌, ◌≤◌, ◌<◌}
-use Rattle.laws.specs.Choice.{if◌then◌else◌, ◌≤ᵇ◌}
+use Rattle.laws.specs.Choice.{ifᵇ◌then◌else◌, ◌≤ᵇ◌}
 use Rattle.laws.specs.Rounding.{up}
 use Rattle.laws.specs.Extremes.{Least}
 use Rattle.datum.specs.Datum.{dug}
@@ -41,7 +41,7 @@ natural_of q = q.natural.0
 
 -- the column of a cut d of which h is dug: A when 10h ≤ 5d, B when 10h ≤ 8d, else C
 abbrev pub column_by : ℕ → ℕ → Column
-column_by h d = if 10 * h ≤ᵇ 5 * d then A else (if 10 * h ≤ᵇ 8 * d then B else C)
+column_by h d = ifᵇ 10 * h ≤ᵇ 5 * d then A else (ifᵇ 10 * h ≤ᵇ 8 * d then B else C)
 
 unfoldable pub column_of : ℕ → ℕ → Column
 column_of natural d = column_by (dug natural d) d
@@ -64,7 +64,7 @@ silt_to q d = up (filling q * dug (natural_of q) d) 100000
 
 -- z4: the silt of a column, of the whole cut d; 0 when s ≤ N
 unfoldable pub z4 : Stretch → Column → ℕ → ℕ
-z4 q c d = if sailing q c ≤ᵇ natural_of q then 0 else silt_to q d
+z4 q c d = ifᵇ sailing q c ≤ᵇ natural_of q then 0 else silt_to q d
 
 -- a cut d is deep enough in a column: at least s + z4
 abbrev pub Deep : Stretch → Column → ℕ → Type 0

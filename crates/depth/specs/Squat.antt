@@ -1,6 +1,6 @@
 -- The squat table (section 4.3): z3 in cm, by column, lanes and speed.
 use Rattle.std.specs.Prelude.{ℕ, ◌+◌, ◌-◌, ◌*◌, List, [], ◌∷◌, get_or}
-use Rattle.laws.specs.Choice.{if◌then◌else◌, ◌<ᵇ◌}
+use Rattle.laws.specs.Choice.{ifᵇ◌then◌else◌, ◌<ᵇ◌}
 use Rattle.lanes.specs.declared.Lanes.{Lanes}
 use Rattle.lanes.specs.declared.Lanes.TheVariants.{One, Two}
 use Rattle.depth.specs.declared.Column.{Column}
@@ -35,9 +35,9 @@ squat_reading Two = 1
 -- the entry at a speed, of the column's number and the reading; a speed outside the table has none
 unfoldable pub squat_entry : ℕ → ℕ → ℕ → ℕ
 squat_entry column reading speed =
-    if speed <ᵇ 2
+    ifᵇ speed <ᵇ 2
     then none
-    else (if 12 <ᵇ speed then none else get_or (get_or squat_table (2 * column + reading) []) (speed - 2) 0)
+    else (ifᵇ 12 <ᵇ speed then none else get_or (get_or squat_table (2 * column + reading) []) (speed - 2) 0)
 
 -- the squat of a column at a speed
 abbrev pub squat_of : Lanes → Column → ℕ → ℕ

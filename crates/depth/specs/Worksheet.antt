@@ -1,6 +1,6 @@
 -- The worksheet (section 4.7): how the cut is found, column by column.
 use Rattle.std.specs.Prelude.{◌≡◌, ℕ, zero, suc, ◌+◌, ◌-◌, ◌*◌, ◌<◌, Bool, true, false, List, [], ◌∷◌, ◌++◌, length, take}
-use Rattle.laws.specs.Choice.{if◌then◌else◌, ◌≤ᵇ◌, ◌<ᵇ◌, ◌=ᵇ◌}
+use Rattle.laws.specs.Choice.{ifᵇ◌then◌else◌, ◌≤ᵇ◌, ◌<ᵇ◌, ◌=ᵇ◌}
 use Rattle.laws.specs.Rounding.{up}
 use Rattle.datum.specs.Datum.{below}
 use Rattle.datum.specs.Datum.{dug}
@@ -30,9 +30,9 @@ endless = 999999999999
 -- rounded up; endless where P × interval is 100,000 or more
 unfoldable pub silt_over : Stretch → ℕ → ℕ
 silt_over q s =
-    if s ≤ᵇ natural_of q
+    ifᵇ s ≤ᵇ natural_of q
     then 0
-    else (if 100000 ≤ᵇ filling q
+    else (ifᵇ 100000 ≤ᵇ filling q
     then endless
     else up (filling q * dug (natural_of q) s) (100000 - filling q))
 
@@ -58,13 +58,13 @@ column_try q c = record {
 -- what a try comes to: a column without an entry, with silt over 120 or a figure over 3,000 cannot be used; else it stays or moves
 unfoldable pub finding_of : Try → Finding
 finding_of t =
-    if none ≤ᵇ t.squat
+    ifᵇ none ≤ᵇ t.squat
     then Unusable NoSquatEntry
-    else (if 120 <ᵇ t.silt
+    else (ifᵇ 120 <ᵇ t.silt
     then Unusable SiltOver
-    else (if 3000 <ᵇ t.figure.0
+    else (ifᵇ 3000 <ᵇ t.figure.0
     then Unusable CutOver
-    else (if column_number t.falls_in =ᵇ column_number t.column then Stays else Moves)))
+    else (ifᵇ column_number t.falls_in =ᵇ column_number t.column then Stays else Moves)))
 
 -- the worksheet goes on from a try
 abbrev pub is_move : Finding → Bool
@@ -78,7 +78,7 @@ moves_on t = is_move (finding_of t)
 -- the tries from a column on, by its line: where that moves, those from the column its figure falls in follow, so often at most
 unfoldable pub walk : (Column → Try) → ℕ → Column → List Try
 walk line zero c = line c ∷ []
-walk line (suc often) c = line c ∷ (if moves_on (line c) then walk line often (line c).falls_in else [])
+walk line (suc often) c = line c ∷ (ifᵇ moves_on (line c) then walk line often (line c).falls_in else [])
 
 -- the worksheet's tries: it begins in column A, and moves at most twice
 unfoldable pub tries : Stretch → List Try

@@ -2,7 +2,7 @@
 -- What it means stands beside it, with no word of a check: `Refusals.antt` has the row of each number, `Answers.antt` what the figures are,
 -- `Harder.antt` demand 3.
 use Rattle.std.specs.Prelude.{ℕ, ◌*◌, List, pos}
-use Rattle.laws.specs.Choice.{if◌then◌else◌, ◌<ᵇ◌}
+use Rattle.laws.specs.Choice.{ifᵇ◌then◌else◌, ◌<ᵇ◌}
 use Rattle.datum.specs.Datum.{natural_depth, datum_depth}
 use Rattle.datum.specs.declared.Level.{Level}
 use Rattle.datum.specs.declared.BelowLevel.{BelowLevel}
@@ -149,7 +149,7 @@ level_for (Given level) read = Found level
 
 -- 18: the length is under three beams
 unfoldable pub of_sheet : Sheet → LevelRead → Answer
-of_sheet s read = if s.length <ᵇ 3 * s.beam then Refused NoShip else by_level s (level_for s.level read)
+of_sheet s read = ifᵇ s.length <ᵇ 3 * s.beam then Refused NoShip else by_level s (level_for s.level read)
 
 -- 1, 2, 3: what bytes may be refused for
 abbrev pub by_reading : SheetRead → LevelRead → Answer

@@ -6,7 +6,7 @@ use Prim.Native.Nat.{ℕ, zero, suc, ◌+◌, ◌≤◌, ◌<◌}
 use native.Mathlib.Omega.{arith}
 use borrow.Author.Tests.{leb-true, leb-false, ltb-true, ltb-false}
 use lib.Dec.{leb, ltb}
-use Rattle.laws.specs.Choice.{if◌then◌else◌}
+use Rattle.laws.specs.Choice.{ifᵇ◌then◌else◌}
 use Rattle.depth.specs.declared.Stretch.{Stretch}
 use Rattle.depth.specs.declared.Column.{Column}
 use Rattle.depth.specs.declared.Column.TheVariants.{A}
@@ -56,7 +56,7 @@ module _ (q : Stretch) where
     by_search_lem entry Nowhere f = (entry, none_found f)
     by_search_lem entry (At e) f = go (ltb 3000 e) refl
       where
-        go : (b : Bool) → ltb 3000 e ≡ b → Ruled c (if b then Fails CutOver else FallsIn (own_column q e))
+        go : (b : Bool) → ltb 3000 e ≡ b → Ruled c (ifᵇ b then Fails CutOver else FallsIn (own_column q e))
         go true t = (entry, (e, found_figure e f, found_silt e f, ltb-true _ _ t))
         go false t = (e, record { entry = entry; figure = found_figure e f; silt = found_silt e f; to = ltb-false _ _ t }, refl)
 
@@ -64,7 +64,7 @@ module _ (q : Stretch) where
     unfolding first_figure
     figure_searched = searched (deep q c) (sailing q c) 121
 
-    by_entry : (b : Bool) → leb none (z3 q c) ≡ b → Ruled c (if b then Fails NoSquatEntry else by_figure (natural_of q) (first_figure q c))
+    by_entry : (b : Bool) → leb none (z3 q c) ≡ b → Ruled c (ifᵇ b then Fails NoSquatEntry else by_figure (natural_of q) (first_figure q c))
     by_entry true t = leb-true _ _ t
     by_entry false t = by_search_lem (leb-false _ _ t) (first_figure q c) figure_searched
 

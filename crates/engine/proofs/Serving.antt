@@ -6,7 +6,7 @@ use Prim.Native.Nat.{ℕ}
 use borrow.Author.Tests.{leb-true, leb-false, le-leb, lt-leb, ltb-false, le-ltb}
 use lib.Dec.{leb, ltb}
 use Rattle.laws.proofs.Never.{never}
-use Rattle.laws.specs.Choice.{if◌then◌else◌}
+use Rattle.laws.specs.Choice.{ifᵇ◌then◌else◌}
 use Rattle.depth.specs.declared.Stretch.{Stretch}
 use Rattle.depth.specs.declared.Column.{Column}
 use Rattle.depth.specs.Squat.{none}
@@ -22,7 +22,7 @@ module _ (q : Stretch) (c : Column) (d : ℕ) where
   unfolding deep
   deep_exactly = (leb-true _ _, le-leb _ _)
 
-  serves_then : (a b : Bool) → leb none (z3 q c) ≡ a → ltb 120 (z4 q c d) ≡ b → (if a then false else (if b then false else deep q c d)) ≡ true → Serves q c d
+  serves_then : (a b : Bool) → leb none (z3 q c) ≡ a → ltb 120 (z4 q c d) ≡ b → (ifᵇ a then false else (ifᵇ b then false else deep q c d)) ≡ true → Serves q c d
   serves_then true b e f t = never cc
   serves_then false true e f t = never cc
   serves_then false false e f t = record { entry = leb-false _ _ e; silt = ltb-false _ _ f; deep = deep_exactly.0 t }

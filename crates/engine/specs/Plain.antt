@@ -1,7 +1,7 @@
 -- The plain engine: each cut from 1 to 3,000 is tried against the definition (section 4.6), and the first that meets it is taken.
 -- Where none does, the rules of the columns say why (section 4.7). `Meaning.antt` has what it comes to, with no word of a search.
 use Rattle.std.specs.Prelude.{ℕ, zero, suc, ◌+◌, Bool, false}
-use Rattle.laws.specs.Choice.{if◌then◌else◌, ◌≤ᵇ◌, ◌<ᵇ◌}
+use Rattle.laws.specs.Choice.{ifᵇ◌then◌else◌, ◌≤ᵇ◌, ◌<ᵇ◌}
 use Rattle.laws.specs.First.{first_from}
 use Rattle.datum.specs.Datum.{below}
 use Rattle.depth.specs.declared.Stretch.{Stretch}
@@ -30,7 +30,7 @@ first_depth passes d many = found (first_from passes d many)
 
 -- a figure: over 3,000, or it falls in a column; where none was found, its silt is over 120
 abbrev pub by_figure : ℕ → Search → Ruling
-by_figure natural (At d) = if 3000 <ᵇ d then Fails CutOver else FallsIn (column_of natural d)
+by_figure natural (At d) = ifᵇ 3000 <ᵇ d then Fails CutOver else FallsIn (column_of natural d)
 by_figure natural Nowhere = Fails SiltOver
 
 -- a column that fails gives its fault, and one whose figure falls elsewhere asks there
@@ -45,7 +45,7 @@ module _ (q : Stretch) where
 
   -- a column serves a cut d: it has an entry, z4 is at most 120, and d is deep enough
   unfoldable pub serves : Column → ℕ → Bool
-  serves c d = if none ≤ᵇ z3 q c then false else (if 120 <ᵇ z4 q c d then false else deep c d)
+  serves c d = ifᵇ none ≤ᵇ z3 q c then false else (ifᵇ 120 <ᵇ z4 q c d then false else deep c d)
 
   -- a cut meets the definition: the column in which it falls serves it
   unfoldable pub meets : ℕ → Bool
@@ -61,7 +61,7 @@ module _ (q : Stretch) where
 
   -- the rules of a column in their order: an entry, silt of at most 120, a figure of at most 3,000; and then where that falls
   unfoldable pub ruling_of : Column → Ruling
-  ruling_of c = if none ≤ᵇ z3 q c then Fails NoSquatEntry else by_figure (natural_of q) (first_figure c)
+  ruling_of c = ifᵇ none ≤ᵇ z3 q c then Fails NoSquatEntry else by_figure (natural_of q) (first_figure c)
 
   -- from a column on, the fault of the first of so many that fails
   unfoldable pub reason_from : ℕ → Column → DepthFault

@@ -6,7 +6,7 @@ use Prim.Native.Nat.{ℕ, ◌*◌, ◌<◌, ◌≤◌}
 use borrow.Author.Tests.{lt-ltb, le-ltb, ltb-true, ne_eqb}
 use lib.Dec.{ltb}
 use Rattle.laws.proofs.Never.{never}
-use Rattle.laws.specs.Choice.{if◌then◌else◌}
+use Rattle.laws.specs.Choice.{ifᵇ◌then◌else◌}
 use Rattle.lanes.specs.Lanes.{by_traffic, lanes_of, sides_of}
 use Rattle.lanes.specs.declared.Lanes.TheVariants.{One, Two}
 
@@ -15,7 +15,7 @@ module _ (channel ships knots : ℕ) where
   unfolding by_traffic
   one_by_traffic e = go (ltb (channel * ships) (4444800 * knots)) refl e
     where
-      go : (b : Bool) → ltb (channel * ships) (4444800 * knots) ≡ b → (if b then One else Two) ≡ One → channel * ships < 4444800 * knots
+      go : (b : Bool) → ltb (channel * ships) (4444800 * knots) ≡ b → (ifᵇ b then One else Two) ≡ One → channel * ships < 4444800 * knots
       go true p e = ltb-true _ _ p
       go false p e = never cc
 

@@ -6,7 +6,7 @@ use Prim.Native.Nat.{ℕ, zero, suc, ◌+◌, ◌-◌, ◌≤◌, ◌<◌}
 use native.Mathlib.Nat.{not-suc-le-zero, le_of_suc-le-suc, add-suc, suc-add, add-zero, zero-add}
 use native.Mathlib.Numerals.{add-one}
 use native.Mathlib.Omega.{arith}
-use Rattle.laws.specs.Choice.{if◌then◌else◌}
+use Rattle.laws.specs.Choice.{ifᵇ◌then◌else◌}
 use Rattle.laws.specs.First.{first_from, first_of}
 
 -- the test holds at k, one of the first n places, and at none before it
@@ -56,7 +56,7 @@ tell test i zero = nowhere refl (λ j l. absurd (not-suc-le-zero l))
 tell test i (suc n) = go (test i) refl (tell test (suc i) n)
   where
     go : (b : Bool) → test i ≡ b → Told test (suc i) n (first_from test (suc i) n)
-        → Told test i (suc n) (if b then suc i else first_from test (suc i) n)
+        → Told test i (suc n) (ifᵇ b then suc i else first_from test (suc i) n)
     go true e t =
         found 0 (omega arith) (ap suc (sym (add-zero i))) (ap test (add-zero i) ∙ e) (λ j l. absurd (not-suc-le-zero l))
     go false e (found k l r here none) =

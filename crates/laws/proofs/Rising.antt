@@ -5,7 +5,7 @@ use Prim.Native.Nat.{ℕ, ◌≤◌}
 use native.Mathlib.Omega.{arith}
 use borrow.Author.Tests.{ltb-true, leb-true, lt-ltb, le-leb}
 use Rattle.laws.proofs.Never.{never}
-use Rattle.laws.specs.Choice.{if◌then◌else◌, ◌<ᵇ◌, ◌≤ᵇ◌}
+use Rattle.laws.specs.Choice.{ifᵇ◌then◌else◌, ◌<ᵇ◌, ◌≤ᵇ◌}
 
 -- a test that holds of every smaller figure too: under an end, and to an end
 abbrev pub Falls : (ℕ → Bool) → Type 0
@@ -27,18 +27,18 @@ module _ {A : Type 0} (R : A → A → Type 0) (same : (a : A) → R a a) (trans
   pub last_band : (low a : A) → R low a → Rises low (λ x. a)
   last_band low a r = record { rises = λ x y h. same a; above = λ x. r }
 
-  pub next_band : (test : ℕ → Bool) → Falls test → (low a : A) → R low a → (f : ℕ → A) → Rises a f → Rises low (λ x. if test x then a else f x)
+  pub next_band : (test : ℕ → Bool) → Falls test → (low a : A) → R low a → (f : ℕ → A) → Rises a f → Rises low (λ x. ifᵇ test x then a else f x)
   next_band test falls low a r f rest = record {
     rises = λ x y h. go (test x) (test y) x y (falls x y h) (rest.rises x y h);
     above = λ x. over (test x) x;
   }
     where
-      go : (s t : Bool) (x y : ℕ) → (t ≡ true → s ≡ true) → R (f x) (f y) → R (if s then a else f x) (if t then a else f y)
+      go : (s t : Bool) (x y : ℕ) → (t ≡ true → s ≡ true) → R (f x) (f y) → R (ifᵇ s then a else f x) (ifᵇ t then a else f y)
       go true true x y i e = same a
       go true false x y i e = rest.above y
       go false true x y i e = let z : false ≡ true = i refl in never cc
       go false false x y i e = e
 
-      over : (t : Bool) (x : ℕ) → R low (if t then a else f x)
+      over : (t : Bool) (x : ℕ) → R low (ifᵇ t then a else f x)
       over true x = r
       over false x = trans low a (f x) r (rest.above x)

@@ -1,12 +1,12 @@
 -- A number in decimal: its digits, what they mean, and its text in bytes.
 use Rattle.std.specs.Prelude.{ℕ, zero, suc, ◌+◌, ◌*◌, ◌/◌, ◌%◌, ◌<◌, ◌≡◌, List, [], ◌∷◌, ◌++◌, map, ℤ, pos, negsuc, get_or}
-use Rattle.laws.specs.Choice.{if◌then◌else◌, ◌<ᵇ◌}
+use Rattle.laws.specs.Choice.{ifᵇ◌then◌else◌, ◌<ᵇ◌}
 use Rattle.laws.specs.Each.{Each}
 
 -- the digits of n, the first one first, found by at most so many divisions by ten
 unfoldable pub digits_within : ℕ → ℕ → List ℕ
 digits_within zero n = n ∷ []
-digits_within (suc divisions) n = if n <ᵇ 10 then n ∷ [] else (digits_within divisions (n / 10) ++ n % 10 ∷ [])
+digits_within (suc divisions) n = ifᵇ n <ᵇ 10 then n ∷ [] else (digits_within divisions (n / 10) ++ n % 10 ∷ [])
 
 -- the digits of n; n divisions are always enough
 unfoldable pub digits : ℕ → List ℕ

@@ -1,6 +1,6 @@
 -- The lines that the printing program writes, and what a buffer holds once one is written.
 use Rattle.std.specs.Prelude.{ℕ, ◌+◌, ◌*◌, ◌≡◌, List, [], ◌∷◌, ◌++◌, map, ℤ, length, take, drop}
-use Rattle.laws.specs.Choice.{if◌then◌else◌, ◌≤ᵇ◌}
+use Rattle.laws.specs.Choice.{ifᵇ◌then◌else◌, ◌≤ᵇ◌}
 use Rattle.engine.specs.Numbers.{plain_count}
 use Rattle.design.specs.Numbers.{number_count}
 use Rattle.lines.specs.Decimals.{count_text, number_text}
@@ -74,11 +74,11 @@ with_text at text buffer = take at buffer ++ (text ++ drop (at + length text) bu
 
 -- the place after a text at a place, where so much room is asked for: the same place where there is less
 unfoldable pub place_within : ℕ → List ℕ → ℕ → List ℕ → ℕ
-place_within room text at buffer = if at + room ≤ᵇ length buffer then at + length text else at
+place_within room text at buffer = ifᵇ at + room ≤ᵇ length buffer then at + length text else at
 
 -- the buffer after a text at a place: as it was where there is less room
 unfoldable pub buffer_within : ℕ → List ℕ → ℕ → List ℕ → List ℕ
-buffer_within room text at buffer = if at + room ≤ᵇ length buffer then with_text at text buffer else buffer
+buffer_within room text at buffer = ifᵇ at + room ≤ᵇ length buffer then with_text at text buffer else buffer
 
 -- the same of a line
 abbrev pub place_after : List ℕ → ℕ → List ℕ → ℕ

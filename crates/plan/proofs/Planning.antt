@@ -12,7 +12,7 @@ use lib.ListN.{length, take, drop, get_or}
 use mir.Syntax.{w32}
 use mir.Val.{SFits}
 use lib.Seq.{drop_at, take_at}
-use Rattle.laws.specs.Choice.{if◌then◌else◌}
+use Rattle.laws.specs.Choice.{ifᵇ◌then◌else◌}
 use Rattle.laws.specs.Each.{Each}
 use Rattle.laws.specs.Rows.{◌when◌, Exactly}
 use Rattle.laws.proofs.Rows.{in_front}
@@ -46,7 +46,7 @@ module _ (sheet place : List ℕ) where
   unfolding plan_number rows
   twelve_exactly = ((λ e. go (ltb (length place) needed) refl e), (λ h. sym (too_small h).0))
     where
-      go : (b : Bool) → ltb (length place) needed ≡ b → (if b then 12 else code_of (planned sheet)) ≡ 12 → length place < needed
+      go : (b : Bool) → ltb (length place) needed ≡ b → (ifᵇ b then 12 else code_of (planned sheet)) ≡ 12 → length place < needed
       go true p e = ltb-true _ _ p
       -- no design is refused by 12
       go false p e = absurd (unlisted_never sheet [] 12 (omega arith) tt (ap code_of (sym (no_table sheet)) ∙ e))
@@ -81,6 +81,6 @@ module _ (sheet place : List ℕ) where
   unfolding plan_place
   later_stay = go (ltb (length place) needed)
     where
-      go : (b : Bool) → drop needed (if b then place else bytes_of_numbers (numbers_of (planned sheet)) ++ drop needed place) ≡ drop needed place
+      go : (b : Bool) → drop needed (ifᵇ b then place else bytes_of_numbers (numbers_of (planned sheet)) ++ drop needed place) ≡ drop needed place
       go true = refl
       go false = drop_at (bytes_of_numbers (numbers_of (planned sheet))) (drop needed place) needed filled

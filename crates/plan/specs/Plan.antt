@@ -1,6 +1,6 @@
 -- The call from C: a sheet and a place in, a number back (section 9).
 use Rattle.std.specs.Prelude.{List, [], ◌∷◌, ◌++◌, ℕ, ◌*◌, ◌<◌, length, drop}
-use Rattle.laws.specs.Choice.{if◌then◌else◌, ◌<ᵇ◌}
+use Rattle.laws.specs.Choice.{ifᵇ◌then◌else◌, ◌<ᵇ◌}
 use Rattle.laws.specs.Rows.{Row, ◌when◌}
 use Rattle.gauge.specs.declared.LevelRead.TheVariants.{NoLevel}
 use Rattle.gauge.specs.declared.LevelFault.TheVariants.{WrongTable}
@@ -20,11 +20,11 @@ planned sheet = design_at sheet (NoLevel WrongTable)
 
 -- what is returned: 12 is tested first
 unfoldable pub plan_number : List ℕ → List ℕ → ℕ
-plan_number sheet place = if length place <ᵇ needed then 12 else code_of (planned sheet)
+plan_number sheet place = ifᵇ length place <ᵇ needed then 12 else code_of (planned sheet)
 
 -- what the place then holds: the numbers first, and its later bytes; or, with 12, what it held
 unfoldable pub plan_place : List ℕ → List ℕ → List ℕ
-plan_place sheet place = if length place <ᵇ needed then place else bytes_of_numbers (numbers_of (planned sheet)) ++ drop needed place
+plan_place sheet place = ifᵇ length place <ᵇ needed then place else bytes_of_numbers (numbers_of (planned sheet)) ++ drop needed place
 
 -- the rows that the call checks, in their order: 12, then a design's over no table
 abbrev pub plan_rows : List ℕ → List ℕ → List Row

@@ -2,7 +2,7 @@
 use Rattle.std.specs.Prelude.{List, [], ◌∷◌, ◌++◌, ℕ, ◌+◌, ◌*◌, ◌/◌, ◌%◌, ℤ, pos, ◌-ℤ◌, get_or, take, drop}
 use Rattle.std.specs.Int.{w32}
 use Rattle.std.proofs.Common.{of_z}
-use Rattle.laws.specs.Choice.{if◌then◌else◌, ◌<ᵇ◌}
+use Rattle.laws.specs.Choice.{ifᵇ◌then◌else◌, ◌<ᵇ◌}
 
 -- the four bytes of a word
 abbrev pub word_bytes : ℕ → List ℕ
@@ -19,7 +19,7 @@ word_of bytes = get_or bytes 0 0 * 16777216 + get_or bytes 1 0 * 65536 + get_or 
 
 -- a word of 32 bits as a signed number: from 2,147,483,648 on it is negative
 abbrev pub signed_of : ℕ → ℤ
-signed_of word = if word <ᵇ 2147483648 then pos word else (pos word -ℤ pos 4294967296)
+signed_of word = ifᵇ word <ᵇ 2147483648 then pos word else (pos word -ℤ pos 4294967296)
 
 -- number i of a place, as a caller reads it
 abbrev pub number_at : List ℕ → ℕ → ℤ

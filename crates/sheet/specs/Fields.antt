@@ -1,7 +1,7 @@
 -- The table of fields, and when a field is bad (sections 1.1 and 1.2).
 use Rattle.std.specs.Prelude.{◌≡◌, Bool, false, ◌||◌, ◌&&◌, not, List, [], ◌∷◌, ◌≢◌, ℕ, suc, ◌-◌, ◌<◌, get_or}
 use Rattle.std.specs.Bool.{beq}
-use Rattle.laws.specs.Choice.{if◌then◌else◌, ◌≤ᵇ◌, ◌<ᵇ◌, ◌=ᵇ◌}
+use Rattle.laws.specs.Choice.{ifᵇ◌then◌else◌, ◌≤ᵇ◌, ◌<ᵇ◌, ◌=ᵇ◌}
 use Rattle.laws.specs.First.{first_from, first_of}
 use Rattle.sheet.specs.declared.Range.{Range}
 use Rattle.sheet.specs.declared.Standing.{Standing}
@@ -64,7 +64,7 @@ field_at k = get_or fields k (0 bits 0 upto 0)
 
 -- the bits of the group after the first k
 unfoldable pub width : ℕ → ℕ
-width k = if k <ᵇ count then (field_at k).0 else spare_bits
+width k = ifᵇ k <ᵇ count then (field_at k).0 else spare_bits
 
 unfoldable pub least : ℕ → ℕ
 least k = (field_at k).1
@@ -84,9 +84,9 @@ field figures number = nth figures (number - 1)
 -- source 0 demands that field 28 be 0, else it is bad.
 unfoldable pub pair_bad : List ℕ → ℕ → Bool
 pair_bad figures k =
-    if k =ᵇ 25
+    ifᵇ k =ᵇ 25
     then not (beq (field figures 25 =ᵇ 0) (field figures 26 =ᵇ 0))
-    else (if k =ᵇ 27 then (field figures 27 =ᵇ 0) && not (field figures 28 =ᵇ 0) else false)
+    else (ifᵇ k =ᵇ 27 then (field figures 27 =ᵇ 0) && not (field figures 28 =ᵇ 0) else false)
 
 -- the field after the first k is bad: outside its values, or against another
 unfoldable pub bad_at : List ℕ → ℕ → Bool
@@ -106,7 +106,7 @@ range_of k = record { least = least k; greatest = greatest k }
 -- how the figure after the first k stands; past the fields nothing is wrong
 unfoldable pub standing_of : List ℕ → ℕ → Standing
 standing_of figures k =
-    if count ≤ᵇ k then Fine else (if outside_at figures k then Outside else (if pair_bad figures k then Disagrees else Fine))
+    ifᵇ count ≤ᵇ k then Fine else (ifᵇ outside_at figures k then Outside else (ifᵇ pair_bad figures k then Disagrees else Fine))
 
 -- the number of the first bad field past the first from, 0 where there is none
 unfoldable pub first_bad_from : List ℕ → ℕ → ℕ

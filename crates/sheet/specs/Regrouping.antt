@@ -1,6 +1,6 @@
 -- What the code holds while it takes bytes apart into groups; no promise speaks of it.
 use Rattle.std.specs.Prelude.{◌≡◌, List, ℕ, ◌+◌, ◌*◌, ◌^◌, ◌<◌, length}
-use Rattle.laws.specs.Choice.{if◌then◌else◌, ◌<ᵇ◌}
+use Rattle.laws.specs.Choice.{ifᵇ◌then◌else◌, ◌<ᵇ◌}
 use Rattle.sheet.specs.Bits.{starts, joined}
 use Rattle.sheet.specs.Fields.{count, width, nth}
 use Rattle.sheet.specs.Packing.{eight}
@@ -24,7 +24,7 @@ word_at bytes k = nth bytes (4 * k) * 2 ^ 24 + nth bytes (4 * k + 1) * 2 ^ 16 + 
 -- with the next word where fewer than w bits are held
 unfoldable pub filled_of : List ℕ → Between → ℕ → Between
 filled_of bytes between w =
-    if between.held.n <ᵇ w
+    ifᵇ between.held.n <ᵇ w
     then record {
       held = record { bits = between.held.bits * 2 ^ 32 + word_at bytes between.words; n = between.held.n + 32 };
       words = between.words + 1;

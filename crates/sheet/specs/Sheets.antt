@@ -2,7 +2,7 @@
 use Rattle.std.specs.Prelude.{ℕ, List, [], ◌∷◌, ◌++◌, ◌≡◌, ℤ, pos, negsuc, length, drop}
 use Rattle.datum.specs.Datum.{below_chart}
 use Rattle.datum.specs.declared.BelowChart.{BelowChart}
-use Rattle.laws.specs.Choice.{if◌then◌else◌, ◌<ᵇ◌, ◌=ᵇ◌}
+use Rattle.laws.specs.Choice.{ifᵇ◌then◌else◌, ◌<ᵇ◌, ◌=ᵇ◌}
 use Rattle.sheet.specs.Fields.{count, nth, field, first_bad}
 use Rattle.sheet.specs.Packing.{size, groups_of, bytes_of}
 use Rattle.sheet.specs.declared.LevelSource.{LevelSource}
@@ -17,7 +17,7 @@ use Rattle.sheet.specs.declared.WriteFault.TheVariants.{PlaceTooSmall, BadField 
 
 -- fields 27 and 28: a level off the record, or given with its figure
 unfoldable pub level_source_of : ℕ → ℕ → LevelSource
-level_source_of source level = if source =ᵇ 0 then FromRecord else Given (record { 0 = level })
+level_source_of source level = ifᵇ source =ᵇ 0 then FromRecord else Given (record { 0 = level })
 
 -- a sheet of figures, with its bed and its level
 abbrev pub sheet_with : List ℕ → BelowChart → LevelSource → Sheet
@@ -87,29 +87,29 @@ figures_of s =
 
 -- the sheet of figures, or the first field that is bad
 unfoldable pub sheet_from : List ℕ → SheetRead
-sheet_from figures = if first_bad figures =ᵇ 0 then Good (sheet_of figures) else NoSheet (BadField (first_bad figures))
+sheet_from figures = ifᵇ first_bad figures =ᵇ 0 then Good (sheet_of figures) else NoSheet (BadField (first_bad figures))
 
 -- what fields and spare bits are read as
 unfoldable pub read_groups : List ℕ → SheetRead
-read_groups figures = if nth figures count =ᵇ 0 then sheet_from figures else NoSheet SpareBitSet
+read_groups figures = ifᵇ nth figures count =ᵇ 0 then sheet_from figures else NoSheet SpareBitSet
 
 -- what any string of bytes is read as
 unfoldable pub read_of : List ℕ → SheetRead
-read_of bytes = if length bytes =ᵇ size then read_groups (groups_of bytes) else NoSheet WrongLength
+read_of bytes = ifᵇ length bytes =ᵇ size then read_groups (groups_of bytes) else NoSheet WrongLength
 
 -- what writing a sheet into a place answers
 unfoldable pub written_of : Sheet → List ℕ → SheetWritten
 written_of s place =
-    if length place <ᵇ size
+    ifᵇ length place <ᵇ size
     then NotWritten PlaceTooSmall
-    else (if first_bad (figures_of s) =ᵇ 0 then Done else NotWritten (BadFieldToWrite (first_bad (figures_of s))))
+    else (ifᵇ first_bad (figures_of s) =ᵇ 0 then Done else NotWritten (BadFieldToWrite (first_bad (figures_of s))))
 
 -- what the place then holds: the sheet's bytes first, or what it held
 unfoldable pub place_of : Sheet → List ℕ → List ℕ
 place_of s place =
-    if length place <ᵇ size
+    ifᵇ length place <ᵇ size
     then place
-    else (if first_bad (figures_of s) =ᵇ 0 then bytes_of (figures_of s) ++ drop size place else place)
+    else (ifᵇ first_bad (figures_of s) =ᵇ 0 then bytes_of (figures_of s) ++ drop size place else place)
 
 -- a sheet whose every field is in its range and whose pairs agree
 unfoldable pub Valid : Sheet → Type 0

@@ -6,7 +6,7 @@ use mathlib.Core.Logic.{◌↔◌, ◌≢◌}
 use Prim.Native.Nat.{ℕ, ◌*◌, ◌≤◌}
 use native.Mathlib.Omega.{arith}
 use borrow.Author.Tests.{eqb-true, eqb-false, ne_eqb, ltb-true, ltb-false}
-use Rattle.laws.specs.Choice.{if◌then◌else◌, ◌<ᵇ◌, ◌=ᵇ◌}
+use Rattle.laws.specs.Choice.{ifᵇ◌then◌else◌, ◌<ᵇ◌, ◌=ᵇ◌}
 use Rattle.laws.specs.Rows.{Exactly, ◌when◌}
 use Rattle.laws.proofs.Never.{never}
 use Rattle.laws.proofs.Rows.{Told, stop, past, Call, exactly, tested}
@@ -50,7 +50,7 @@ module _ (q : Section) (knots : ℕ) where
   unfolding check_of
   check_told = go (q.slope =ᵇ 0) refl
     where
-      go : (b : Bool) → (q.slope =ᵇ 0) ≡ b → CheckTold (if b then Allowed else by_speed q.cut.0 knots (critical_speed q))
+      go : (b : Bool) → (q.slope =ᵇ 0) ≡ b → CheckTold (ifᵇ b then Allowed else by_speed q.cut.0 knots (critical_speed q))
       go true none =
           let zero-slope = eqb-true q.slope 0 none in
           past (λ row. row.asked zero-slope) (past (λ row. row.asked zero-slope) (refl, refl))
@@ -66,6 +66,6 @@ module _ (q : Section) (knots : ℕ) where
   allowed_exactly parts asked is = rw (ne_eqb q.slope 0 asked, is) (go (9 * parts * 3600 <ᵇ 100 * (knots * 1852) * whole q.cut.0) refl)
     where
       go : (b : Bool) → (9 * parts * 3600 <ᵇ 100 * (knots * 1852) * whole q.cut.0) ≡ b
-          → ((if b then NotAllowed TooFastFault else Allowed) ≡ Allowed) ↔ (100 * (knots * 1852) * whole q.cut.0 ≤ 9 * parts * 3600)
+          → ((ifᵇ b then NotAllowed TooFastFault else Allowed) ≡ Allowed) ↔ (100 * (knots * 1852) * whole q.cut.0 ≤ 9 * parts * 3600)
       go true e = (λ same. never cc, λ within. absurd (omega (arith, ltb-true (9 * parts * 3600) _ e)))
       go false e = (λ same. ltb-false (9 * parts * 3600) _ e, λ within. refl)

@@ -7,7 +7,7 @@ use native.Mathlib.Nat.{le-div_iff_mul-le}
 use native.Mathlib.Omega.{arith}
 use borrow.Author.Tests.{eq-eqb, ne_eqb}
 use lib.Dec.{eqb}
-use Rattle.laws.specs.Choice.{if◌then◌else◌}
+use Rattle.laws.specs.Choice.{ifᵇ◌then◌else◌}
 use Rattle.laws.proofs.Never.{never}
 use Rattle.speed.specs.Critical.{critical_speed, whole, check_of}
 use Rattle.speed.specs.Shown.{quotient, over, fastest_speed, parts_shown}
@@ -32,7 +32,7 @@ pub over_missing : (divisor : ℕ) → Missing ≡ over divisor Missing
 unfolding over
 over_missing divisor = go (eqb divisor 0)
   where
-    go : (b : Bool) → Missing ≡ (if b then Missing else Missing)
+    go : (b : Bool) → Missing ≡ (ifᵇ b then Missing else Missing)
     go true = refl
     go false = refl
 

@@ -1,6 +1,6 @@
 -- The critical speed (section 13.3), and the check against it (section 13.4).
 use Rattle.std.specs.Prelude.{ℕ, ◌-◌, ◌*◌, List}
-use Rattle.laws.specs.Choice.{if◌then◌else◌, ◌<ᵇ◌, ◌=ᵇ◌}
+use Rattle.laws.specs.Choice.{ifᵇ◌then◌else◌, ◌<ᵇ◌, ◌=ᵇ◌}
 use Rattle.datum.specs.Datum.{dug}
 use Rattle.speed.specs.declared.Section.{Section}
 use Rattle.speed.specs.declared.Speed.{Speed}
@@ -39,7 +39,7 @@ whole cut = 2000000 * cut
 -- knots × 1,852 / 3,600 metres a second against nine tenths of so many parts of the whole, in tenths of a metre a second; equal is allowed.
 -- Both sides stand times 100 × 3,600 × the whole.
 unfoldable pub against : ℕ → ℕ → ℕ → SpeedCheck
-against parts cut knots = if 9 * parts * 3600 <ᵇ 100 * (knots * 1852) * whole cut then NotAllowed TooFastFault else Allowed
+against parts cut knots = ifᵇ 9 * parts * 3600 <ᵇ 100 * (knots * 1852) * whole cut then NotAllowed TooFastFault else Allowed
 
 -- 16, then 17
 abbrev pub by_speed : ℕ → ℕ → Speed → SpeedCheck
@@ -48,4 +48,4 @@ by_speed cut knots Missing = NotAllowed PointMissing
 
 -- a slope of 0 asks for no check
 unfoldable pub check_of : Section → ℕ → SpeedCheck
-check_of q knots = if q.slope =ᵇ 0 then Allowed else by_speed q.cut.0 knots (critical_speed q)
+check_of q knots = ifᵇ q.slope =ᵇ 0 then Allowed else by_speed q.cut.0 knots (critical_speed q)

@@ -1,6 +1,6 @@
 -- Speeds by their weights, and straight lines over a grid (section 13.2): exact, as parts of a whole.
 use Rattle.std.specs.Prelude.{ℕ, ◌+◌, ◌-◌, ◌*◌, ◌/◌, ◌%◌}
-use Rattle.laws.specs.Choice.{if◌then◌else◌, ◌=ᵇ◌}
+use Rattle.laws.specs.Choice.{ifᵇ◌then◌else◌, ◌=ᵇ◌}
 use Rattle.speed.specs.declared.Speed.{Speed}
 use Rattle.speed.specs.declared.Speed.TheVariants.{Parts, Missing}
 
@@ -16,7 +16,7 @@ times weight Missing = Missing
 
 -- the part of a speed that has a weight; one without weight is not needed
 unfoldable pub part : ℕ → Speed → Speed
-part weight speed = if weight =ᵇ 0 then Parts 0 else times weight speed
+part weight speed = ifᵇ weight =ᵇ 0 then Parts 0 else times weight speed
 
 -- two parts together
 abbrev pub together : Speed → Speed → Speed

@@ -1,6 +1,6 @@
 -- What a critical speed is joined from, as a sheet shows it (section 13): whole numbers, rounded down.
 use Rattle.std.specs.Prelude.{ℕ, ◌*◌, ◌/◌}
-use Rattle.laws.specs.Choice.{if◌then◌else◌, ◌=ᵇ◌}
+use Rattle.laws.specs.Choice.{ifᵇ◌then◌else◌, ◌=ᵇ◌}
 use Rattle.datum.specs.Datum.{dug}
 use Rattle.speed.specs.declared.Section.{Section}
 use Rattle.speed.specs.declared.Speed.{Speed}
@@ -16,7 +16,7 @@ quotient divisor Missing = Missing
 
 -- there is none over 0
 unfoldable pub over : ℕ → Speed → Speed
-over divisor speed = if divisor =ᵇ 0 then Missing else quotient divisor speed
+over divisor speed = ifᵇ divisor =ᵇ 0 then Missing else quotient divisor speed
 
 -- nine tenths of so many parts of the whole, in tenths of a metre a second: in hundredths of a knot, which is 1,852 m in 3,600 s
 unfoldable pub fastest_speed : ℕ → Speed → Speed

@@ -1,6 +1,6 @@
 -- Table 2a of document 001 (section 13.1): critical speeds in tenths of a metre a second, by bottom width, side slope and depth.
 use Rattle.std.specs.Prelude.{ℕ, ◌+◌, ◌-◌, ◌*◌, Bool, ◌||◌, List, [], ◌∷◌, get_or, replicate}
-use Rattle.laws.specs.Choice.{if◌then◌else◌, ◌<ᵇ◌, ◌=ᵇ◌}
+use Rattle.laws.specs.Choice.{ifᵇ◌then◌else◌, ◌<ᵇ◌, ◌=ᵇ◌}
 use Rattle.speed.specs.declared.Speed.{Speed}
 use Rattle.speed.specs.declared.Speed.TheVariants.{Parts, Missing}
 
@@ -39,17 +39,17 @@ outside line first last = (line <ᵇ first) || (last <ᵇ line)
 -- the row of a width in lines of 50 m, 1 to 5, and a slope in lines of 4, 1 to 3; dashes outside
 unfoldable pub full_row : ℕ → ℕ → List ℕ
 full_row width slope =
-    if outside width 1 5
+    ifᵇ outside width 1 5
     then replicate 13 dash
-    else (if outside slope 1 3 then replicate 13 dash else get_or full_table (3 * (width - 1) + (slope - 1)) [])
+    else (ifᵇ outside slope 1 3 then replicate 13 dash else get_or full_table (3 * (width - 1) + (slope - 1)) [])
 
 -- what stands in the table, as a speed: a dash is none
 unfoldable pub entry : ℕ → Speed
-entry figure = if figure =ᵇ dash then Missing else Parts figure
+entry figure = ifᵇ figure =ᵇ dash then Missing else Parts figure
 
 -- the point of a row at a depth in whole metres, 4 to 16: missing at a dash, and outside
 unfoldable pub point_of : List ℕ → ℕ → Speed
-point_of row metres = if outside metres 4 16 then Missing else entry (get_or row (metres - 4) 0)
+point_of row metres = ifᵇ outside metres 4 16 then Missing else entry (get_or row (metres - 4) 0)
 
 -- a point of the shallow row, and one of the full sections, by their lines
 abbrev pub shallow_point : ℕ → Speed

@@ -5,7 +5,7 @@ use mathlib.Core.List.{List, [], ◌∷◌, ◌++◌, map, flatten, Memᴰ}
 use mathlib.Core.Logic.{◌↔◌, ◌⊎◌, ◌≢◌}
 use Prim.Native.Nat.{ℕ, ◌+◌, ◌-◌, ◌*◌, ◌^◌, ◌≤◌, ◌<◌}
 use lib.ListN.{length, get_or, drop}
-use Rattle.laws.specs.Choice.{if◌then◌else◌}
+use Rattle.laws.specs.Choice.{ifᵇ◌then◌else◌}
 use Rattle.laws.specs.Each.{Each}
 use Rattle.laws.specs.Rows.{Exactly}
 use Rattle.laws.proofs.Unique.{one_answer}
@@ -211,7 +211,7 @@ found_at_its_place = all_places
 
 -- A message quotes the line of its number, or says that the text ends.
 pub message_quotes_its_line : (text : List ℕ) (place : Place) → PlaceIn text place
-    → stood_text text place ≡ (if place.ended then bytes_of "the text ends" else quoted_text (bare (get_or (lines_of text) (place.line - 1) [])))
+    → stood_text text place ≡ (ifᵇ place.ended then bytes_of "the text ends" else quoted_text (bare (get_or (lines_of text) (place.line - 1) [])))
 message_quotes_its_line = stood_there
 
 -- No text is longer than the bytes that it is given: a message than 1,024, a shown sheet than 4,096, the form than 20,000, a sheet than 28.

@@ -1,6 +1,6 @@
 -- The message of a fault (section 14.4).
 use Rattle.std.specs.Prelude.{ℕ, ◌-◌, min, List, [], ◌∷◌, ◌++◌, map, length, take, drop}
-use Rattle.laws.specs.Choice.{if◌then◌else◌, ◌≤ᵇ◌, ◌<ᵇ◌, ◌=ᵇ◌}
+use Rattle.laws.specs.Choice.{ifᵇ◌then◌else◌, ◌≤ᵇ◌, ◌<ᵇ◌, ◌=ᵇ◌}
 use Rattle.lines.specs.Decimals.{count_text}
 use Rattle.typed.specs.Rows.{bytes_of}
 use Rattle.typed.specs.Lines.{expected_text}
@@ -27,7 +27,7 @@ reason_text Disagrees = bytes_of ": T9 turn and radius disagree: "
 
 -- a byte as it is shown: `?` for one under 32 and for 127
 unfoldable pub shown : ℕ → ℕ
-shown b = if b <ᵇ 32 then 63 else (if b =ᵇ 127 then 63 else b)
+shown b = ifᵇ b <ᵇ 32 then 63 else (ifᵇ b =ᵇ 127 then 63 else b)
 
 -- how many bytes of a line are shown
 abbrev pub seen : ℕ
@@ -38,12 +38,12 @@ abbrev pub seen_text : List ℕ → List ℕ
 seen_text line = (bytes_of "\"" ++ map shown (take (min seen (length line)) line)) ++ bytes_of "\""
 
 unfoldable pub quoted_text : List ℕ → List ℕ
-quoted_text line = if length line ≤ᵇ seen then seen_text line else seen_text line ++ bytes_of ".."
+quoted_text line = ifᵇ length line ≤ᵇ seen then seen_text line else seen_text line ++ bytes_of ".."
 
 -- what stood at a place of a text
 unfoldable pub stood_text : List ℕ → Place → List ℕ
 stood_text text place =
-    if place.ended then bytes_of "the text ends" else quoted_text (take (place.end - place.start) (drop place.start text))
+    ifᵇ place.ended then bytes_of "the text ends" else quoted_text (take (place.end - place.start) (drop place.start text))
 
 -- what was expected there
 abbrev pub expected_for : LineFault → ℕ → List ℕ

@@ -1,6 +1,6 @@
 -- The name of a sheet (section 14.1).
 use Rattle.std.specs.Prelude.{ℕ, ◌+◌, ◌-◌, min, List, [], ◌∷◌, length, take, drop}
-use Rattle.laws.specs.Choice.{if◌then◌else◌}
+use Rattle.laws.specs.Choice.{ifᵇ◌then◌else◌}
 use Rattle.texts.specs.Cutting.{lines_of, bare, begins_sheet}
 use Rattle.texts.specs.declared.Span.{Span}
 
@@ -11,7 +11,7 @@ front_bytes = 6
 -- the name of the first line that begins a sheet; none where it is `sheet` alone, or where no line begins a sheet
 unfoldable pub name_from : List (List ℕ) → List ℕ
 name_from [] = []
-name_from (line ∷ lines) = if begins_sheet (bare line) then drop front_bytes (bare line) else name_from lines
+name_from (line ∷ lines) = ifᵇ begins_sheet (bare line) then drop front_bytes (bare line) else name_from lines
 
 -- a part of a text, and its bytes
 abbrev pub span : ℕ → ℕ → Span
@@ -24,7 +24,7 @@ bytes_in text part = take (part.end - part.start) (drop part.start text)
 unfoldable pub name_in : ℕ → ℕ → List (List ℕ) → Span
 name_in bytes at [] = span at at
 name_in bytes at (line ∷ lines) =
-    if begins_sheet (bare line)
+    ifᵇ begins_sheet (bare line)
     then span (at + min front_bytes (length (bare line))) (at + length (bare line))
     else name_in bytes (min (at + length line + 1) bytes) lines
 

@@ -1,6 +1,6 @@
 -- Bytes shown as text, the bytes of figures, and the empty form (sections 14.5 and 14.6).
 use Rattle.std.specs.Prelude.{ℕ, zero, suc, ◌+◌, ◌%◌, List, [], ◌∷◌, ◌++◌, get_or}
-use Rattle.laws.specs.Choice.{if◌then◌else◌, ◌<ᵇ◌, ◌=ᵇ◌}
+use Rattle.laws.specs.Choice.{ifᵇ◌then◌else◌, ◌<ᵇ◌, ◌=ᵇ◌}
 use Rattle.lines.specs.Decimals.{count_text}
 use Rattle.sheet.specs.Fields.{first_bad}
 use Rattle.sheet.specs.Packing.{size, bytes_of as packed_of}
@@ -26,10 +26,10 @@ sheet_bytes = size
 -- the figure of a row; the level's is 0 off the record, or one more than its field 28, which is of 11 bits
 unfoldable pub row_figure : List ℕ → ℕ → ℕ
 row_figure figures i =
-    if i <ᵇ level_row
+    ifᵇ i <ᵇ level_row
     then get_or figures i 0
     else
-    (if i =ᵇ level_row then (if get_or figures 26 0 =ᵇ 0 then 0 else get_or figures 27 0 % 65536 + 1) else get_or figures 28 0)
+    (ifᵇ i =ᵇ level_row then (ifᵇ get_or figures 26 0 =ᵇ 0 then 0 else get_or figures 27 0 % 65536 + 1) else get_or figures 28 0)
 
 -- the line of a row, with its newline
 unfoldable pub row_line : ℕ → ℕ → List ℕ
@@ -56,7 +56,7 @@ shown_text index bytes = ((bytes_of "sheet " ++ count_text index) ++ newline ∷
 
 -- the bytes of a sheet's figures, none where they are no sheet's
 unfoldable pub sheet_text : List ℕ → List ℕ
-sheet_text figures = if first_bad figures =ᵇ 0 then packed_of figures else []
+sheet_text figures = ifᵇ first_bad figures =ᵇ 0 then packed_of figures else []
 
 -- a row of the form: what is expected, and the line with a blank
 unfoldable pub form_row : ℕ → List ℕ

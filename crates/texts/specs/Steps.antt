@@ -1,6 +1,6 @@
 -- What a line brings (section 14.3).
 use Rattle.std.specs.Prelude.{ℕ, ◌+◌, ◌-◌, List, set}
-use Rattle.laws.specs.Choice.{if◌then◌else◌, ◌<ᵇ◌, ◌=ᵇ◌}
+use Rattle.laws.specs.Choice.{ifᵇ◌then◌else◌, ◌<ᵇ◌, ◌=ᵇ◌}
 use Rattle.sheet.specs.Fields.{standing_of, count as field_count}
 use Rattle.sheet.specs.declared.Standing.{Standing}
 use Rattle.sheet.specs.declared.Standing.TheVariants.{Fine, Outside, Disagrees as DisagreesThere}
@@ -32,16 +32,16 @@ fault_number Disagrees = 9
 -- the figures with that of a row; the level's stands for fields 27 and 28
 unfoldable pub stored : List ℕ → ℕ → ℕ → List ℕ
 stored figures k n =
-    if k <ᵇ level_row
+    ifᵇ k <ᵇ level_row
     then set figures k n
     else
-    (if k =ᵇ level_row
-    then set (set figures 26 (if n =ᵇ 0 then 0 else 1)) 27 (n - 1)
-    else (if k =ᵇ 27 then set figures 28 n else figures))
+    (ifᵇ k =ᵇ level_row
+    then set (set figures 26 (ifᵇ n =ᵇ 0 then 0 else 1)) 27 (n - 1)
+    else (ifᵇ k =ᵇ 27 then set figures 28 n else figures))
 
 -- the field that a row's figure is tested in
 unfoldable pub field_of : ℕ → ℕ
-field_of k = if k <ᵇ level_row then k else (if k <ᵇ count then k + 1 else field_count)
+field_of k = ifᵇ k <ᵇ level_row then k else (ifᵇ k <ᵇ count then k + 1 else field_count)
 
 abbrev pub step : Stage → List ℕ → Event → Step
 step stage figures event = record { stage = stage; figures = figures; event = event }
@@ -54,14 +54,14 @@ refused_by figures fault row = step Skipping figures (Fault fault row)
 abbrev pub accepted_by : Standing → List ℕ → ℕ → Step
 accepted_by Outside figures k = refused_by figures OutOfRange k
 accepted_by DisagreesThere figures k = refused_by figures Disagrees k
-accepted_by Fine figures k = if k <ᵇ 27 then step (InRow (k + 1)) figures Nothing else step Between figures Sheet
+accepted_by Fine figures k = ifᵇ k <ᵇ 27 then step (InRow (k + 1)) figures Nothing else step Between figures Sheet
 
 unfoldable pub accepted_in : List ℕ → ℕ → Step
 accepted_in figures k = accepted_by (standing_of figures (field_of k)) figures k
 
 -- a line without the row's name: no row has its name, one before, or one behind
 unfoldable pub name_fault : ℕ → List ℕ → LineFault
-name_fault k line = if row_named line =ᵇ count then NoName else (if row_named line <ᵇ k then Twice else Misplaced)
+name_fault k line = ifᵇ row_named line =ᵇ count then NoName else (ifᵇ row_named line <ᵇ k then Twice else Misplaced)
 
 -- a line in the place of the row after the first k
 abbrev pub row_step_by : Entry → List ℕ → ℕ → List ℕ → Step
@@ -91,8 +91,8 @@ other_step (InRow k) figures line = row_step figures k line
 
 -- a line that is not passed over
 unfoldable pub step_of : Stage → List ℕ → List ℕ → Step
-step_of stage figures line = if begins_sheet line then begin_step stage figures else other_step stage figures line
+step_of stage figures line = ifᵇ begins_sheet line then begin_step stage figures else other_step stage figures line
 
 -- any line
 unfoldable pub line_step : Stage → List ℕ → List ℕ → Step
-line_step stage figures line = if passed_over line then step stage figures Nothing else step_of stage figures line
+line_step stage figures line = ifᵇ passed_over line then step stage figures Nothing else step_of stage figures line

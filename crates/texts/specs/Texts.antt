@@ -1,6 +1,6 @@
 -- The sheets and the faults of a text, one after another (section 14.3).
 use Rattle.std.specs.Prelude.{ℕ, ◌+◌, min, Bool, true, false, List, [], ◌∷◌, ◌++◌, length, drop, replicate}
-use Rattle.laws.specs.Choice.{if◌then◌else◌}
+use Rattle.laws.specs.Choice.{ifᵇ◌then◌else◌}
 use Rattle.sheet.specs.Fields.{count as field_count}
 use Rattle.texts.specs.Cutting.{lines_of, bare, next_number}
 use Rattle.texts.specs.Steps.{missing_at, line_step}
@@ -57,7 +57,7 @@ unfoldable pub found_in : ℕ → Cursor → List (List ℕ) → Found
 found_in bytes cursor [] = ended_at cursor
 found_in bytes cursor (line ∷ lines) =
     let found = turn_on bytes cursor line in
-    if happened_in found.event then found else found_in bytes found.cursor lines
+    ifᵇ happened_in found.event then found else found_in bytes found.cursor lines
 
 -- the next sheet or fault from a cursor on
 unfoldable pub next_of : List ℕ → Cursor → Found
@@ -65,7 +65,7 @@ next_of text cursor = found_in (length text) cursor (lines_of (drop cursor.at te
 
 -- what is found, where something is
 abbrev pub if_happened : Found → List Found
-if_happened found = if happened_in found.event then found ∷ [] else []
+if_happened found = ifᵇ happened_in found.event then found ∷ [] else []
 
 -- all that lines bring, in their order
 unfoldable pub all_in : ℕ → Cursor → List (List ℕ) → List Found

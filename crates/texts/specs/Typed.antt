@@ -1,7 +1,7 @@
 -- What a typed text is, in the definition's words (section 14): its lines, its sheets, its faults and its bytes.
 use Rattle.std.specs.Prelude.{◌≡◌, true, false, ◌⊎◌, ◌≢◌, ℕ, zero, suc, ◌+◌, ◌-◌, ◌*◌, ◌≤◌, ◌<◌, length, get_or, take, drop}
 use mathlib.Core.List.{List, [], ◌∷◌, ◌++◌, map, flatten}
-use Rattle.laws.specs.Choice.{if◌then◌else◌}
+use Rattle.laws.specs.Choice.{ifᵇ◌then◌else◌}
 use Rattle.laws.specs.Each.{Each}
 use Rattle.laws.specs.Rows.{Row, ◌when◌}
 use Rattle.sheet.specs.Fields.{field, first_bad, count as field_count}
@@ -29,7 +29,7 @@ use Rattle.texts.specs.declared.steps.Step.{Step}
 -- of some lines, those that are not passed over, each without a carriage return at its end
 unfoldable pub kept_of : List (List ℕ) → List (List ℕ)
 kept_of [] = []
-kept_of (line ∷ lines) = if passed_over (bare line) then kept_of lines else bare line ∷ kept_of lines
+kept_of (line ∷ lines) = ifᵇ passed_over (bare line) then kept_of lines else bare line ∷ kept_of lines
 
 -- the lines of a text, comments and blank lines aside
 unfoldable pub kept : List ℕ → List (List ℕ)
@@ -42,7 +42,7 @@ all_from text cursor = all_in (length text) cursor (lines_of (drop cursor.at tex
 -- how many of some lines begin a sheet
 unfoldable pub beginnings : List (List ℕ) → ℕ
 beginnings [] = 0
-beginnings (line ∷ lines) = if begins_sheet line then beginnings lines + 1 else beginnings lines
+beginnings (line ∷ lines) = ifᵇ begins_sheet line then beginnings lines + 1 else beginnings lines
 
 -- of what was found, the faults
 abbrev pub fault_in : Event → Found → List Found

@@ -1,6 +1,6 @@
 -- The text of a row: its name, its figure and its unit (section 14.2), and what is expected in it (14.4).
 use Rattle.std.specs.Prelude.{ℕ, zero, suc, ◌+◌, ◌-◌, ◌*◌, ◌/◌, ◌%◌, List, [], ◌∷◌, ◌++◌, get_or, take, drop}
-use Rattle.laws.specs.Choice.{if◌then◌else◌, ◌<ᵇ◌, ◌=ᵇ◌}
+use Rattle.laws.specs.Choice.{ifᵇ◌then◌else◌, ◌<ᵇ◌, ◌=ᵇ◌}
 use Rattle.lines.specs.Decimals.{byte_of, minus, count_text}
 use Rattle.lines.specs.Lines.{space}
 use Rattle.sheet.specs.declared.Range.{Range}
@@ -19,7 +19,7 @@ expected_bytes = 512
 -- what stands in a place of the table, up to its first space
 unfoldable pub token : List ℕ → List ℕ
 token [] = []
-token (b ∷ slot) = if b =ᵇ space then [] else b ∷ token slot
+token (b ∷ slot) = ifᵇ b =ᵇ space then [] else b ∷ token slot
 
 abbrev pub point : ℕ
 point = 46
@@ -38,9 +38,9 @@ level_zero = 501
 -- a level off the record, or given with its sign
 unfoldable pub level_text : ℕ → List ℕ
 level_text n =
-    if n =ᵇ 0
+    ifᵇ n =ᵇ 0
     then bytes_of "record"
-    else bytes_of "given " ++ (if n <ᵇ level_zero then minus ∷ count_text (level_zero - n) else count_text (n - level_zero))
+    else bytes_of "given " ++ (ifᵇ n <ᵇ level_zero then minus ∷ count_text (level_zero - n) else count_text (n - level_zero))
 
 -- the word of a code
 unfoldable pub word_text : List ℕ → ℕ → List ℕ
@@ -59,7 +59,7 @@ figure_text r n = figure_by r.1 r.3 n
 
 -- a space and a unit, nothing where there is none
 unfoldable pub behind : List ℕ → List ℕ
-behind unit = if get_or unit 0 0 =ᵇ space then [] else space ∷ token unit
+behind unit = ifᵇ get_or unit 0 0 =ᵇ space then [] else space ∷ token unit
 
 -- the unit behind a figure; a level off the record has none
 abbrev pub unit_by : Kind → List ℕ → ℕ → List ℕ
@@ -67,7 +67,7 @@ unit_by Whole unit n = behind unit
 unit_by Tenths unit n = behind unit
 unit_by Hundredths unit n = behind unit
 unit_by Words unit n = behind unit
-unit_by Level unit n = if n =ᵇ 0 then [] else behind unit
+unit_by Level unit n = ifᵇ n =ᵇ 0 then [] else behind unit
 
 unfoldable pub unit_text : Row → ℕ → List ℕ
 unit_text r n = unit_by r.1 r.2 n
@@ -97,7 +97,7 @@ blank_text i = blank_row (row_at i)
 unfoldable pub words_from : Row → ℕ → ℕ → List ℕ
 words_from r j zero = []
 words_from r j (suc most) =
-    if get_or r.3 (16 * j) 0 =ᵇ space then [] else (bytes_of " | " ++ row_text r j) ++ words_from r (j + 1) most
+    ifᵇ get_or r.3 (16 * j) 0 =ᵇ space then [] else (bytes_of " | " ++ row_text r j) ++ words_from r (j + 1) most
 
 -- the lines of two figures
 unfoldable pub span_text : Row → ℕ → ℕ → List ℕ

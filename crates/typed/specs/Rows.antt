@@ -3,7 +3,7 @@ use Rattle.std.specs.Prelude.{ℕ, ◌+◌, get_or, take, replicate}
 use Prim.Native.Char.{code}
 use Prim.Native.String.{String, [] as empty, ◌∷◌ as ◌then◌}
 use mathlib.Core.List.{List, [], ◌∷◌, ◌++◌, map, flatten}
-use Rattle.laws.specs.Choice.{if◌then◌else◌, ◌<ᵇ◌, ◌=ᵇ◌}
+use Rattle.laws.specs.Choice.{ifᵇ◌then◌else◌, ◌<ᵇ◌, ◌=ᵇ◌}
 use Rattle.sheet.specs.Fields.{range_of}
 use Rattle.sheet.specs.declared.Range.{Range}
 use Rattle.typed.specs.declared.Kind.{Kind}
@@ -75,9 +75,9 @@ row_at i = get_or rows i (row "" Whole "" [])
 -- field of their number, the one behind it the next.
 unfoldable pub values_of : ℕ → Range
 values_of i =
-    if i <ᵇ level_row
+    ifᵇ i <ᵇ level_row
     then range_of i
     else
-    (if i =ᵇ level_row
+    (ifᵇ i =ᵇ level_row
     then record { least = 0; greatest = 2001 }
-    else (if i <ᵇ count then range_of (i + 1) else record { least = 0; greatest = 0 }))
+    else (ifᵇ i <ᵇ count then range_of (i + 1) else record { least = 0; greatest = 0 }))

@@ -7,7 +7,7 @@ use native.Mathlib.Nat.{mul-le-mul_left}
 use native.Mathlib.Omega.{arith}
 use borrow.Author.Tests.{eqb-true, eqb-false, eq-eqb, ltb-true, ltb-false}
 use lib.Dec.{ltb, eqb}
-use Rattle.laws.specs.Choice.{if◌then◌else◌}
+use Rattle.laws.specs.Choice.{ifᵇ◌then◌else◌}
 use Rattle.laws.specs.Rows.{Exactly}
 use Rattle.laws.proofs.Rows.{Told, stop, past, Call, exactly}
 use Rattle.datum.specs.declared.CrossCurrent.{CrossCurrent}
@@ -32,7 +32,7 @@ past_sheltered : (water last figure : ℕ) → Past (water_of water) last figure
 unfolding water_of
 past_sheltered water last figure = go (eqb water 1) refl
   where
-    go : (t : Bool) → eqb water 1 ≡ t → Past (if t then Sheltered else Open) last figure → (water ≡ 1) × (last < figure)
+    go : (t : Bool) → eqb water 1 ≡ t → Past (ifᵇ t then Sheltered else Open) last figure → (water ≡ 1) × (last < figure)
     go true p over = (eqb-true water 1 p, over)
     go false p over = absurd over
 

@@ -6,7 +6,7 @@ use native.Mathlib.Nat.{mul-le-mul}
 use native.Mathlib.Omega.{arith}
 use borrow.Author.Tests.{eqb-false, ltb-true, ltb-false}
 use lib.Dec.{ltb, eqb, lit<}
-use Rattle.laws.specs.Choice.{if◌then◌else◌}
+use Rattle.laws.specs.Choice.{ifᵇ◌then◌else◌}
 use Rattle.laws.proofs.Rounding.{up_le}
 use Rattle.datum.specs.declared.CrossCurrent.{CrossCurrent}
 use Rattle.lanes.specs.declared.Lanes.{Lanes}
@@ -34,7 +34,7 @@ abbrev Few : ℕ → Type 0
 Few tenths = tenths < 2 ^ 8
 
 -- what is so both ways of a choice is so of the choice
-either : {a b : ℕ} (test : Bool) → Few a → Few b → Few (if test then a else b)
+either : {a b : ℕ} (test : Bool) → Few a → Few b → Few (ifᵇ test then a else b)
 either true p q = p
 either false p q = q
 
@@ -99,7 +99,7 @@ abbrev FewIn : Entry → Type 0
 FewIn (Tenths n) = Few n
 FewIn Blank = Unit {0}
 
-either_entry : (test : Bool) (a b : Entry) → FewIn a → FewIn b → FewIn (if test then a else b)
+either_entry : (test : Bool) (a b : Entry) → FewIn a → FewIn b → FewIn (ifᵇ test then a else b)
 either_entry true a b p q = p
 either_entry false a b p q = q
 
@@ -140,8 +140,8 @@ widening_small turn radius length knots lanes t l k =
   where
     go : (a b c : Bool) → eqb turn 0 ≡ a → ltb (100 * radius) (least_lengths turn * length) ≡ b → ltb (100 * radius) (10 * length) ≡ c
         → widening_figure
-        (if a then Widening 0 else
-        (if b then TooTight else (if c then Widening (widening_of turn radius length knots lanes) else Widening 0))) < 2 ^ 31
+        (ifᵇ a then Widening 0 else
+        (ifᵇ b then TooTight else (ifᵇ c then Widening (widening_of turn radius length knots lanes) else Widening 0))) < 2 ^ 31
     go true b c p q r = omega arith
     go false true c p q r = omega arith
     go false false true p q r =

@@ -1,6 +1,6 @@
 -- Waters and speed bands, and the bands of currents and waves (sections 5.1 and 5.2).
 use Rattle.std.specs.Prelude.{ℕ}
-use Rattle.laws.specs.Choice.{if◌then◌else◌, ◌≤ᵇ◌, ◌<ᵇ◌, ◌=ᵇ◌}
+use Rattle.laws.specs.Choice.{ifᵇ◌then◌else◌, ◌≤ᵇ◌, ◌<ᵇ◌, ◌=ᵇ◌}
 use Rattle.datum.specs.declared.CrossCurrent.{CrossCurrent}
 use Rattle.datum.specs.declared.AlongCurrent.{AlongCurrent}
 use Rattle.width.specs.declared.Water.{Water}
@@ -14,11 +14,11 @@ use Rattle.width.specs.declared.EntriesFound.TheVariants.{Entered, NoEntry}
 
 -- field 14: 1 is sheltered; any other number, of which a sheet has only 0, is open
 unfoldable pub water_of : ℕ → Water
-water_of water = if water =ᵇ 1 then Sheltered else Open
+water_of water = ifᵇ water =ᵇ 1 then Sheltered else Open
 
 -- speed 8–12 is moderate, under 8 slow; over 12, which no sheet has, is moderate too
 unfoldable pub speed_band_of : ℕ → SpeedBand
-speed_band_of speed = if speed <ᵇ 8 then Slow else Moderate
+speed_band_of speed = ifᵇ speed <ᵇ 8 then Slow else Moderate
 
 infix 2 by◌in-open◌in-sheltered◌ for◌moderate◌slow◌
 -- what open water takes, and what sheltered water
@@ -34,21 +34,21 @@ for◌moderate◌slow◌ Slow a b = b
 -- cross current under 2: 0; to 5: open 2/3, sheltered 1/2; to 15: open 7/10, sheltered 5/8; over 15: open 10/13, sheltered no entry
 unfoldable pub cross_entry : Water → SpeedBand → CrossCurrent → Entry
 cross_entry water band cross =
-    if cross.0 <ᵇ 2 then Tenths 0 else
-    (if cross.0 ≤ᵇ 5 then Tenths (by water in-open (for band moderate 2 slow 3) in-sheltered (for band moderate 1 slow 2)) else
-    (if cross.0 ≤ᵇ 15 then Tenths (by water in-open (for band moderate 7 slow 10) in-sheltered (for band moderate 5 slow 8)) else
+    ifᵇ cross.0 <ᵇ 2 then Tenths 0 else
+    (ifᵇ cross.0 ≤ᵇ 5 then Tenths (by water in-open (for band moderate 2 slow 3) in-sheltered (for band moderate 1 slow 2)) else
+    (ifᵇ cross.0 ≤ᵇ 15 then Tenths (by water in-open (for band moderate 7 slow 10) in-sheltered (for band moderate 5 slow 8)) else
     (by water in-open (Tenths (for band moderate 10 slow 13)) in-sheltered Blank)))
 
 -- along current under 15: 0; to 30: 1/2; over: 2/4
 unfoldable pub along_item : SpeedBand → AlongCurrent → ℕ
 along_item band along =
-    if along.0 <ᵇ 15 then 0 else (if along.0 ≤ᵇ 30 then (for band moderate 1 slow 2) else (for band moderate 2 slow 4))
+    ifᵇ along.0 <ᵇ 15 then 0 else (ifᵇ along.0 ≤ᵇ 30 then (for band moderate 1 slow 2) else (for band moderate 2 slow 4))
 
 -- wave to 100: 0; to 300: open 10/5; over: open 22/15; sheltered over 100: no entry
 unfoldable pub wave_entry : Water → SpeedBand → ℕ → Entry
 wave_entry water band wave =
-    if wave ≤ᵇ 100 then Tenths 0 else
-    (if wave ≤ᵇ 300 then (by water in-open (Tenths (for band moderate 10 slow 5)) in-sheltered Blank) else
+    ifᵇ wave ≤ᵇ 100 then Tenths 0 else
+    (ifᵇ wave ≤ᵇ 300 then (by water in-open (Tenths (for band moderate 10 slow 5)) in-sheltered Blank) else
     (by water in-open (Tenths (for band moderate 22 slow 15)) in-sheltered Blank))
 
 -- both entries are needed: the cross current's and the wave's

@@ -1,6 +1,6 @@
 -- Bends: the least radius and the widening (section 6).
 use Rattle.std.specs.Prelude.{ℕ, ◌*◌, ◌<◌, ◌≤◌}
-use Rattle.laws.specs.Choice.{if◌then◌else◌, ◌<ᵇ◌, ◌=ᵇ◌}
+use Rattle.laws.specs.Choice.{ifᵇ◌then◌else◌, ◌<ᵇ◌, ◌=ᵇ◌}
 use Rattle.laws.specs.Rounding.{up}
 use Rattle.lanes.specs.Lanes.{lane_count}
 use Rattle.lanes.specs.declared.Lanes.{Lanes}
@@ -9,7 +9,7 @@ use Rattle.width.specs.declared.Bend.TheVariants.{Widening, TooTight}
 
 -- least radius of a bend: 3 lengths under 25°, 5 under 35°, 8 under 55°, else 10
 unfoldable pub least_lengths : ℕ → ℕ
-least_lengths turn = if turn <ᵇ 25 then 3 else (if turn <ᵇ 35 then 5 else (if turn <ᵇ 55 then 8 else 10))
+least_lengths turn = ifᵇ turn <ᵇ 25 then 3 else (ifᵇ turn <ᵇ 35 then 5 else (ifᵇ turn <ᵇ 55 then 8 else 10))
 
 -- the same in whole metres, rounded up; the length is in cm
 unfoldable pub least_radius : ℕ → ℕ → ℕ
@@ -24,9 +24,9 @@ widening_of turn radius length knots lanes =
 -- The radius is in m and the length in cm.
 unfoldable pub bend_of : ℕ → ℕ → ℕ → ℕ → Lanes → Bend
 bend_of turn radius length knots lanes =
-    if turn =ᵇ 0 then Widening 0 else
-    (if 100 * radius <ᵇ least_lengths turn * length then TooTight else
-    (if 100 * radius <ᵇ 10 * length then Widening (widening_of turn radius length knots lanes) else Widening 0))
+    ifᵇ turn =ᵇ 0 then Widening 0 else
+    (ifᵇ 100 * radius <ᵇ least_lengths turn * length then TooTight else
+    (ifᵇ 100 * radius <ᵇ 10 * length then Widening (widening_of turn radius length knots lanes) else Widening 0))
 
 -- its figure: the widening in cm, 0 when refused
 abbrev pub widening_figure : Bend → ℕ

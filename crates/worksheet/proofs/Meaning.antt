@@ -8,7 +8,7 @@ use native.Mathlib.Omega.{arith}
 use borrow.Author.Tests.{ltb-true, ltb-false}
 use lib.Dec.{ltb}
 use lib.ListN.{length, take}
-use Rattle.laws.specs.Choice.{if◌then◌else◌}
+use Rattle.laws.specs.Choice.{ifᵇ◌then◌else◌}
 use Rattle.blanks.specs.declared.Figure.TheVariants.{Count, Signed}
 use Rattle.depth.specs.Worksheet.{tries, blank_try, worksheet_of}
 use Rattle.depth.specs.declared.DepthFigures.{DepthFigures}
@@ -103,6 +103,6 @@ unfolding greater_of
 greater_is one other = go (ltb one other) refl
   where
     go : (b : Bool) → ltb one other ≡ b
-        → (one ≤ (if b then other else one)) × (other ≤ (if b then other else one)) × ((((if b then other else one) ≡ one) → ⊥) → (if b then other else one) ≡ other)
+        → (one ≤ (ifᵇ b then other else one)) × (other ≤ (ifᵇ b then other else one)) × ((((ifᵇ b then other else one) ≡ one) → ⊥) → (ifᵇ b then other else one) ≡ other)
     go true e = (omega (arith, ltb-true one other e), omega arith, λ no_one. refl)
     go false e = (omega arith, omega (arith, ltb-false one other e), λ no_one. absurd (no_one refl))

@@ -1,6 +1,6 @@
 -- The bend: its least radius, its radius and its widening (section 15.9).
 use Rattle.std.specs.Prelude.{ℕ, List, [], ◌∷◌}
-use Rattle.laws.specs.Choice.{if◌then◌else◌, ◌=ᵇ◌}
+use Rattle.laws.specs.Choice.{ifᵇ◌then◌else◌, ◌=ᵇ◌}
 use Rattle.blanks.specs.declared.Figure.TheVariants.{Count}
 use Rattle.lanes.specs.declared.Lanes.{Lanes}
 use Rattle.typed.specs.Rows.{bytes_of}
@@ -19,4 +19,4 @@ bend_text TooTight turn radius length =
 
 unfoldable pub bend_part : ℕ → ℕ → ℕ → ℕ → Lanes → List ℕ
 bend_part turn radius length knots lanes =
-    if turn =ᵇ 0 then bytes_of "BEND\n  straight\n" else bend_text (bend_of turn radius length knots lanes) turn radius length
+    ifᵇ turn =ᵇ 0 then bytes_of "BEND\n  straight\n" else bend_text (bend_of turn radius length knots lanes) turn radius length

@@ -1,6 +1,6 @@
 -- The depth: its allowances, each try, and the cut (section 15.7).
 use Rattle.std.specs.Prelude.{ℕ, ◌+◌, List, [], ◌∷◌, ◌++◌, take}
-use Rattle.laws.specs.Choice.{if◌then◌else◌, ◌<ᵇ◌}
+use Rattle.laws.specs.Choice.{ifᵇ◌then◌else◌, ◌<ᵇ◌}
 use Rattle.blanks.specs.declared.Figure.TheVariants.{Count, Signed}
 use Rattle.datum.specs.Datum.{datum_depth}
 use Rattle.datum.specs.declared.Level.{Level}
@@ -27,7 +27,7 @@ try_numbers number t =
 -- a column whose silt is too much: over 120, or without end
 unfoldable pub silt_line : ℕ → Try → List ℕ
 silt_line number t =
-    if t.silt <ᵇ endless
+    ifᵇ t.silt <ᵇ endless
     then try_numbers number t ++ bytes_of "unusable: silt over 120\n"
     else with "  %1   %0   %4  %5   none    none      unusable: silts up whole\n"
     (Count number ∷ column_letter t.column ∷ Count t.squat ∷ Count t.sailing.0 ∷ [])

@@ -1,7 +1,7 @@
 -- Lines with blanks, and the figures that fill them (section 15.1).
 use Rattle.std.specs.Prelude.{ℕ, List, [], ◌++◌, ℤ, pos, negsuc, take, replicate}
 use Prim.Native.String.{String}
-use Rattle.laws.specs.Choice.{if◌then◌else◌, ◌=ᵇ◌}
+use Rattle.laws.specs.Choice.{ifᵇ◌then◌else◌, ◌=ᵇ◌}
 use Rattle.blanks.specs.Blanks.{filled}
 use Rattle.blanks.specs.declared.Figure.{Figure}
 use Rattle.blanks.specs.declared.Figure.TheVariants.{Count, Signed, Letter, Nothing}
@@ -37,7 +37,7 @@ column_letter C = Letter 67
 
 -- a limit; 0 is none
 unfoldable pub limit_figure : ℕ → Figure
-limit_figure limit = if limit =ᵇ 0 then Nothing else Count limit
+limit_figure limit = ifᵇ limit =ᵇ 0 then Nothing else Count limit
 
 -- a speed, where there is one
 abbrev pub speed_figure : Speed → Figure

@@ -1,6 +1,6 @@
 -- Why a sheet is turned away, and what it would need to pass (section 15.12).
 use Rattle.std.specs.Prelude.{ℕ, ◌-◌, ◌*◌, ◌/◌, ◌%◌, List, [], ◌∷◌, ◌++◌, get_or}
-use Rattle.laws.specs.Choice.{if◌then◌else◌, ◌<ᵇ◌, ◌≤ᵇ◌, ◌=ᵇ◌}
+use Rattle.laws.specs.Choice.{ifᵇ◌then◌else◌, ◌<ᵇ◌, ◌≤ᵇ◌, ◌=ᵇ◌}
 use Rattle.blanks.specs.declared.Figure.TheVariants.{Count}
 use Rattle.datum.specs.declared.CrossCurrent.{CrossCurrent}
 use Rattle.depth.specs.Squat.{fastest_entry}
@@ -31,11 +31,11 @@ use Rattle.worksheet.specs.Filling.{with, column_letter}
 
 -- the row of a field, by how many stand before it; the level's stands for two
 unfoldable pub row_of_field : ℕ → ℕ
-row_of_field field = if field ≤ᵇ 26 then field - 1 else (if field ≤ᵇ 28 then 26 else 27)
+row_of_field field = ifᵇ field ≤ᵇ 26 then field - 1 else (ifᵇ field ≤ᵇ 28 then 26 else 27)
 
 -- the least and the greatest figure of its row; a level's are those that are given
 unfoldable pub values_of_field : ℕ → Range
-values_of_field field = if row_of_field field =ᵇ 26 then record { least = 1; greatest = 2001 } else range_of (field - 1)
+values_of_field field = ifᵇ row_of_field field =ᵇ 26 then record { least = 1; greatest = 2001 } else range_of (field - 1)
 
 -- what a field may hold
 unfoldable pub may_hold : ℕ → List ℕ
@@ -47,9 +47,9 @@ may_hold field =
 -- what else makes a field bad
 unfoldable pub field_note : ℕ → List ℕ
 field_note field =
-    if field =ᵇ 26
+    ifᵇ field =ᵇ 26
     then bytes_of "  turn and radius are both 0, or neither\n"
-    else (if field =ᵇ 28 then bytes_of "  a level off the record has no figure\n" else [])
+    else (ifᵇ field =ᵇ 28 then bytes_of "  a level off the record has no figure\n" else [])
 
 unfoldable pub bad_field : ℕ → List ℕ
 bad_field field = (with "REFUSED 3: field %0 is bad\n  it may hold " (Count field ∷ []) ++ may_hold field) ++ field_note field
@@ -85,12 +85,12 @@ no_width_text NoWidthEntry least radius cross wave =
 
 -- the last try of a worksheet
 unfoldable pub last_of : Worksheet → Try
-last_of w = if w.count ≤ᵇ 1 then get_or w.tries 0 blank_try else (if w.count =ᵇ 2 then get_or w.tries 1 blank_try else get_or w.tries 2 blank_try)
+last_of w = ifᵇ w.count ≤ᵇ 1 then get_or w.tries 0 blank_try else (ifᵇ w.count =ᵇ 2 then get_or w.tries 1 blank_try else get_or w.tries 2 blank_try)
 
 -- 14: over 120, or without end
 unfoldable pub silt_text : Try → ℕ → List ℕ
 silt_text t filling =
-    if t.silt <ᵇ endless
+    ifᵇ t.silt <ᵇ endless
     then with "REFUSED 14: no depth, as silt is over 120 cm\n  in column %0 it comes to %0 cm\n" (column_letter t.column ∷ Count t.silt ∷ [])
     else with "REFUSED 14: no depth, as all that is dug silts up\n  silting x interval is %0; under 100000 is needed\n" (Count filling ∷ [])
 

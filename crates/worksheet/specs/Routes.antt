@@ -1,6 +1,6 @@
 -- The pages of the route: its stretches in a table, and the end (section 15.13).
 use Rattle.std.specs.Prelude.{ℕ, ◌+◌, ◌-◌, ◌/◌, ◌%◌, List, [], ◌∷◌, ◌++◌}
-use Rattle.laws.specs.Choice.{if◌then◌else◌, ◌<ᵇ◌, ◌=ᵇ◌}
+use Rattle.laws.specs.Choice.{ifᵇ◌then◌else◌, ◌<ᵇ◌, ◌=ᵇ◌}
 use Rattle.blanks.specs.declared.Figure.{Figure}
 use Rattle.blanks.specs.declared.Figure.TheVariants.{Count, Signed, Nothing}
 use Rattle.design.specs.Numbers.{code_of}
@@ -19,7 +19,7 @@ abbrev pub none_yet : Greatest
 none_yet = record { cut = 0; width = 0 }
 
 unfoldable pub greater_of : ℕ → ℕ → ℕ
-greater_of one other = if one <ᵇ other then other else one
+greater_of one other = ifᵇ one <ᵇ other then other else one
 
 unfoldable pub with_figures : Greatest → Figures → Greatest
 with_figures g f = record { cut = greater_of g.cut f.cut.0; width = greater_of g.width (unsigned_of f.width) }
@@ -36,7 +36,7 @@ route_head page =
 -- a new page after every fiftieth line: a form feed and its head
 unfoldable pub new_page : ℕ → List ℕ
 new_page index =
-    if index <ᵇ 2 then [] else (if (index - 1) % 50 =ᵇ 0 then 12 ∷ route_head ((index - 1) / 50 + 1) else [])
+    ifᵇ index <ᵇ 2 then [] else (ifᵇ (index - 1) % 50 =ᵇ 0 then 12 ∷ route_head ((index - 1) / 50 + 1) else [])
 
 -- the line of a stretch that is answered
 unfoldable pub answered_line : ℕ → Figures → List ℕ
@@ -55,7 +55,7 @@ stretch_text index answer = new_page index ++ line_by index answer
 
 -- a greatest figure, where a stretch is answered
 unfoldable pub greatest_figure : ℕ → ℕ → Figure
-greatest_figure answered figure = if answered =ᵇ 0 then Nothing else Count figure
+greatest_figure answered figure = ifᵇ answered =ᵇ 0 then Nothing else Count figure
 
 -- the end of the route
 unfoldable pub foot_text : Totals → Greatest → Readings → List ℕ

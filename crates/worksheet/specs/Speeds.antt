@@ -1,6 +1,6 @@
 -- The critical speed with its parts, where the side slope asks for it (section 15.10).
 use Rattle.std.specs.Prelude.{ℕ, ◌/◌, ◌%◌, List, [], ◌∷◌, ◌++◌}
-use Rattle.laws.specs.Choice.{if◌then◌else◌, ◌=ᵇ◌}
+use Rattle.laws.specs.Choice.{ifᵇ◌then◌else◌, ◌=ᵇ◌}
 use Rattle.blanks.specs.declared.Figure.TheVariants.{Count}
 use Rattle.speed.specs.Shown.{parts_shown}
 use Rattle.speed.specs.declared.Section.{Section}
@@ -24,4 +24,4 @@ parts_text slope cut p =
 
 unfoldable pub speed_part : Section → ℕ → List ℕ
 speed_part q knots =
-    if q.slope =ᵇ 0 then [] else parts_text q.slope q.cut.0 (parts_shown q) ++ fastest_text (parts_shown q).fastest knots
+    ifᵇ q.slope =ᵇ 0 then [] else parts_text q.slope q.cut.0 (parts_shown q) ++ fastest_text (parts_shown q).fastest knots

@@ -1,6 +1,6 @@
 -- The lanes: named, or both sides of the rule (section 15.6).
 use Rattle.std.specs.Prelude.{ℕ, List, [], ◌∷◌, ◌++◌}
-use Rattle.laws.specs.Choice.{if◌then◌else◌, ◌<ᵇ◌, ◌=ᵇ◌}
+use Rattle.laws.specs.Choice.{ifᵇ◌then◌else◌, ◌<ᵇ◌, ◌=ᵇ◌}
 use Rattle.blanks.specs.declared.Figure.TheVariants.{Count}
 use Rattle.lanes.specs.Lanes.{sides_of}
 use Rattle.lanes.specs.declared.Sides.{Sides}
@@ -10,9 +10,9 @@ use Rattle.worksheet.specs.Filling.{with}
 -- which side is greater, and the lanes that it comes to
 unfoldable pub greater_text : Sides → List ℕ
 greater_text sides =
-    if sides.traffic <ᵇ sides.limit
+    ifᵇ sides.traffic <ᵇ sides.limit
     then bytes_of "  the second is greater: one lane\n"
-    else (if sides.traffic =ᵇ sides.limit
+    else (ifᵇ sides.traffic =ᵇ sides.limit
     then bytes_of "  they are equal: two lanes\n"
     else bytes_of "  the first is greater: two lanes\n")
 
@@ -23,8 +23,8 @@ traffic_text sides =
 
 unfoldable pub lanes_part : ℕ → ℕ → ℕ → ℕ → List ℕ
 lanes_part named channel ships knots =
-    if named =ᵇ 1
+    ifᵇ named =ᵇ 1
     then bytes_of "LANES named on the sheet\n  one lane\n"
-    else (if named =ᵇ 2
+    else (ifᵇ named =ᵇ 2
     then bytes_of "LANES named on the sheet\n  two lanes\n"
     else traffic_text (sides_of channel ships knots))

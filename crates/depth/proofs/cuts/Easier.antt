@@ -6,7 +6,7 @@ use native.Mathlib.Nat.{mul-le-mul}
 use native.Mathlib.Omega.{arith}
 use borrow.Author.Tests.{leb-true, leb-false}
 use lib.Dec.{leb}
-use Rattle.laws.specs.Choice.{if◌then◌else◌}
+use Rattle.laws.specs.Choice.{ifᵇ◌then◌else◌}
 use Rattle.laws.proofs.Rounding.{up_mono}
 use Rattle.depth.specs.declared.Stretch.{Stretch}
 use Rattle.depth.specs.declared.Column.{Column}
@@ -35,7 +35,7 @@ module _ (q q' : Stretch) (h : Harder q q') where
   z4_rises c c' hs d d' hd = go (leb (sailing q c) (natural_of q)) (leb (sailing q' c') (natural_of q')) refl refl
     where
       go : (a b : Bool) → leb (sailing q c) (natural_of q) ≡ a → leb (sailing q' c') (natural_of q') ≡ b
-          → (if a then 0 else silt_to q d) ≤ (if b then 0 else silt_to q' d')
+          → (ifᵇ a then 0 else silt_to q d) ≤ (ifᵇ b then 0 else silt_to q' d')
       go true b e f = zero-le
       go false true e f = absurd (omega (arith, leb-true, leb-false, h.natural))
       go false false e f = silt_rises d d' hd

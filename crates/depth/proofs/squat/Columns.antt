@@ -5,7 +5,7 @@ use Prim.Native.Nat.{ℕ, ◌-◌, ◌*◌, ◌≤◌, ◌<◌}
 use native.Mathlib.Omega.{arith}
 use borrow.Author.Tests.{leb-true, leb-false, le-leb, lt-leb}
 use lib.Dec.{leb}
-use Rattle.laws.specs.Choice.{if◌then◌else◌}
+use Rattle.laws.specs.Choice.{ifᵇ◌then◌else◌}
 use Rattle.lanes.specs.declared.Lanes.{Lanes}
 use Rattle.lanes.specs.declared.Lanes.TheVariants.{One, Two}
 use Rattle.depth.specs.declared.Column.{Column}
@@ -60,7 +60,7 @@ column_up natural d e h =
   where
     go : (a b a' b' : Bool) → leb (10 * (d - natural)) (5 * d) ≡ a → leb (10 * (d - natural)) (8 * d) ≡ b
         → leb (10 * (e - natural)) (5 * e) ≡ a' → leb (10 * (e - natural)) (8 * e) ≡ b'
-        → column_number (if a then A else (if b then B else C)) ≤ column_number (if a' then A else (if b' then B else C))
+        → column_number (ifᵇ a then A else (ifᵇ b then B else C)) ≤ column_number (ifᵇ a' then A else (ifᵇ b' then B else C))
     go true b a' b' p q p' q' = omega arith
     go false b true b' p q p' q' = absurd (omega (arith, leb-true, leb-false))
     go false true false true p q p' q' = omega arith

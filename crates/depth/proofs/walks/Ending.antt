@@ -6,7 +6,7 @@ use mathlib.Core.List.{List, [], ◌∷◌}
 use Prim.Native.Nat.{ℕ, zero, suc, ◌+◌, ◌≤◌, ◌<◌, zero-le}
 use native.Mathlib.Omega.{arith}
 use Rattle.laws.proofs.Never.{never}
-use Rattle.laws.specs.Choice.{if◌then◌else◌}
+use Rattle.laws.specs.Choice.{ifᵇ◌then◌else◌}
 use Rattle.laws.specs.Extremes.{Least}
 use Rattle.depth.specs.declared.Column.{Column}
 use Rattle.depth.specs.declared.Column.TheVariants.{A}
@@ -104,7 +104,7 @@ module _ (own : ℕ → Column) (Fit : Column → ℕ → Type 0) (Good : ℕ �
       where
         go : (t : Bool) → moves_on (line c) ≡ t
             → (Begun (line c).falls_in → column_number c < column_number (line c).falls_in → Walked (walk line often (line c).falls_in))
-            → Walked (line c ∷ (if t then walk line often (line c).falls_in else []))
+            → Walked (line c ∷ (ifᵇ t then walk line often (line c).falls_in else []))
         go true e r = let g = goes_on c b e in more often c (line c).falls_in g.1 (r g.0 g.1)
         go false e r = one c b e
 

@@ -5,7 +5,7 @@ use Prim.Native.Nat.{ℕ, ◌≤◌, ◌<◌}
 use native.Mathlib.Omega.{arith}
 use borrow.Author.Tests.{leb-true, leb-false, ltb-true, ltb-false, eqb-true, eqb-false, le-leb, lt-leb, lt-ltb, le-ltb, eq-eqb, ne_eqb}
 use lib.Dec.{leb, ltb, eqb}
-use Rattle.laws.specs.Choice.{if◌then◌else◌}
+use Rattle.laws.specs.Choice.{ifᵇ◌then◌else◌}
 use Rattle.depth.specs.declared.Try.{Try}
 use Rattle.depth.specs.declared.DepthFault.{DepthFault}
 use Rattle.depth.specs.declared.DepthFault.TheVariants.{NoSquatEntry, SiltOver, CutOver}
@@ -75,7 +75,7 @@ finding_says t =
   where
     go : (a b d e : Bool) → leb none t.squat ≡ a → ltb 120 t.silt ≡ b → ltb 3000 t.figure.0 ≡ d
         → eqb (column_number t.falls_in) (column_number t.column) ≡ e
-        → Says t (if a then Unusable NoSquatEntry else (if b then Unusable SiltOver else (if d then Unusable CutOver else (if e then Stays else Moves))))
+        → Says t (ifᵇ a then Unusable NoSquatEntry else (ifᵇ b then Unusable SiltOver else (ifᵇ d then Unusable CutOver else (ifᵇ e then Stays else Moves))))
     go true b d e ea eb ed ee = leb-true _ _ ea
     go false true d e ea eb ed ee = (leb-false _ _ ea, ltb-true _ _ eb)
     go false false true e ea eb ed ee = (leb-false _ _ ea, ltb-false _ _ eb, ltb-true _ _ ed)

@@ -4,7 +4,7 @@ use mathlib.Core.Bool.{Bool, true, false}
 use mathlib.Core.List.{List, [], ◌∷◌}
 use Prim.Native.Nat.{ℕ, zero, suc}
 use Rattle.laws.proofs.Never.{never}
-use Rattle.laws.specs.Choice.{if◌then◌else◌}
+use Rattle.laws.specs.Choice.{ifᵇ◌then◌else◌}
 use Rattle.depth.specs.declared.Column.{Column}
 use Rattle.depth.specs.declared.Try.{Try}
 use Rattle.depth.specs.Worksheet.{moves_on, walk, last_try, Followed}
@@ -23,8 +23,8 @@ module _ (line : Column → Try) where
     where
       go : (b : Bool) → moves_on (line c) ≡ b
           → (moves_on (last_try (walk line often (line c).falls_in)) ≡ false → Followed line (line c).falls_in (walk line often (line c).falls_in))
-          → moves_on (last_try (line c ∷ (if b then walk line often (line c).falls_in else []))) ≡ false
-          → Followed line c (line c ∷ (if b then walk line often (line c).falls_in else []))
+          → moves_on (last_try (line c ∷ (ifᵇ b then walk line often (line c).falls_in else []))) ≡ false
+          → Followed line c (line c ∷ (ifᵇ b then walk line often (line c).falls_in else []))
       go true m r p =
           followed_later c m (walk line often (line c).falls_in) (r (rw (last_later (line c) line often (line c).falls_in) at p))
       go false m r p = (refl, m)

@@ -5,7 +5,7 @@ use mathlib.Core.List.{[], ◌∷◌}
 use Prim.Native.Nat.{ℕ, zero, suc, ◌+◌, ◌≤◌, ◌<◌}
 use native.Mathlib.Omega.{arith}
 use lib.ListN.{length}
-use Rattle.laws.specs.Choice.{if◌then◌else◌}
+use Rattle.laws.specs.Choice.{ifᵇ◌then◌else◌}
 use Rattle.depth.specs.declared.Stretch.{Stretch}
 use Rattle.depth.specs.declared.Column.{Column}
 use Rattle.depth.specs.declared.Column.TheVariants.{A}
@@ -36,8 +36,8 @@ walk_length line zero c = omega arith
 walk_length line (suc often) c = go (moves_on (line c)) (walk_length line often (line c).falls_in)
   where
     go : (b : Bool) → (1 ≤ length (walk line often (line c).falls_in)) × (length (walk line often (line c).falls_in) ≤ often + 1)
-        → (1 ≤ suc (length (if b then walk line often (line c).falls_in else [])))
-        × (suc (length (if b then walk line often (line c).falls_in else [])) ≤ suc often + 1)
+        → (1 ≤ suc (length (ifᵇ b then walk line often (line c).falls_in else [])))
+        × (suc (length (ifᵇ b then walk line often (line c).falls_in else [])) ≤ suc often + 1)
     go true h = omega arith
     go false h = omega arith
 
@@ -65,7 +65,7 @@ last_has P line h zero c = h c
 last_has P line h (suc often) c = go (moves_on (line c)) (last_has P line h often (line c).falls_in)
   where
     go : (b : Bool) → P (last_try (walk line often (line c).falls_in))
-        → P (last_try (line c ∷ (if b then walk line often (line c).falls_in else [])))
+        → P (last_try (line c ∷ (ifᵇ b then walk line often (line c).falls_in else [])))
     go true r = rw (last_later (line c) line often (line c).falls_in) r
     go false r = h c
 

@@ -8,7 +8,7 @@ use native.Mathlib.Omega.{arith}
 use lib.Dec.{T, leb→le}
 use lib.IntN.{pos}
 use lib.ListN.{length, take}
-use Rattle.laws.specs.Choice.{if◌then◌else◌, ◌≤ᵇ◌, ◌=ᵇ◌}
+use Rattle.laws.specs.Choice.{ifᵇ◌then◌else◌, ◌≤ᵇ◌, ◌=ᵇ◌}
 use Rattle.laws.specs.Rows.{Row, Listed}
 use Rattle.laws.proofs.Every.{both_left, both_right}
 use Rattle.laws.proofs.Rows.{absent, present, present_listed, present_other}
@@ -103,19 +103,19 @@ field_unless (Refused r) n = field_zero r n
 -- the reason of a number and a field
 abbrev reason_from : ℕ → ℕ → Reason
 reason_from number field =
-    if number =ᵇ 1 then NoSheet WrongLength else
-    (if number =ᵇ 2 then NoSheet SpareBitSet else
-    (if number =ᵇ 3 then NoSheet (BadField field) else
-    (if number =ᵇ 18 then NoShip else
-    (if number =ᵇ 4 then NoLevel WrongTable else
-    (if number =ᵇ 5 then NoLevel TooFewReadings else
-    (if number =ᵇ 6 then NoLevel RangeTooWide else
-    (if number =ᵇ 7 then NoWidth BendTooTight else
-    (if number =ᵇ 8 then NoWidth NoWidthEntry else
-    (if number =ᵇ 13 then NoDepth NoSquatEntry else
-    (if number =ᵇ 14 then NoDepth SiltOver else
-    (if number =ᵇ 15 then NoDepth CutOver else
-    (if number =ᵇ 16 then NoSpeed PointMissing else NoSpeed TooFast))))))))))))
+    ifᵇ number =ᵇ 1 then NoSheet WrongLength else
+    (ifᵇ number =ᵇ 2 then NoSheet SpareBitSet else
+    (ifᵇ number =ᵇ 3 then NoSheet (BadField field) else
+    (ifᵇ number =ᵇ 18 then NoShip else
+    (ifᵇ number =ᵇ 4 then NoLevel WrongTable else
+    (ifᵇ number =ᵇ 5 then NoLevel TooFewReadings else
+    (ifᵇ number =ᵇ 6 then NoLevel RangeTooWide else
+    (ifᵇ number =ᵇ 7 then NoWidth BendTooTight else
+    (ifᵇ number =ᵇ 8 then NoWidth NoWidthEntry else
+    (ifᵇ number =ᵇ 13 then NoDepth NoSquatEntry else
+    (ifᵇ number =ᵇ 14 then NoDepth SiltOver else
+    (ifᵇ number =ᵇ 15 then NoDepth CutOver else
+    (ifᵇ number =ᵇ 16 then NoSpeed PointMissing else NoSpeed TooFast))))))))))))
 
 reason_back : (r : Reason) → reason_from (reason_number r) (reason_field r) ≡ r
 reason_back (NoSheet WrongLength) = refl

@@ -4,7 +4,7 @@ use mathlib.Core.Bool.{Bool, true, false}
 use mathlib.Core.List.{List}
 use Prim.Native.Nat.{ℕ, ◌*◌}
 use lib.Dec.{ltb}
-use Rattle.laws.specs.Choice.{if◌then◌else◌}
+use Rattle.laws.specs.Choice.{ifᵇ◌then◌else◌}
 use Rattle.laws.proofs.Never.{never}
 use Rattle.datum.specs.declared.Level.{Level}
 use Rattle.sheet.specs.Sheets.{read_of}
@@ -107,7 +107,7 @@ module _ (s : Sheet) (read : LevelRead) (f : Figures) where
       by_level_lem (Found level) is e = at_level_lem level is e
       by_level_lem (NoLevel fault) is e = never cc
 
-      go : (b : Bool) → (if b then Refused NoShip else by_level s (level_for s.level read)) ≡ Answered f → WorkedFrom s read f
+      go : (b : Bool) → (ifᵇ b then Refused NoShip else by_level s (level_for s.level read)) ≡ Answered f → WorkedFrom s read f
       go true e = never cc
       go false e = by_level_lem (level_for s.level read) refl e
 

@@ -5,7 +5,7 @@ use Prim.Native.Nat.{ℕ, ◌+◌, ◌-◌, ◌≤◌}
 use native.Mathlib.Omega.{arith}
 use borrow.Author.Tests.{eq-eqb, ne_eqb}
 use lib.Dec.{eqb}
-use Rattle.laws.specs.Choice.{if◌then◌else◌}
+use Rattle.laws.specs.Choice.{ifᵇ◌then◌else◌}
 use Rattle.laws.specs.First.{first_from}
 use Rattle.sheet.specs.Fields.{count, outside_at, first_outside, bad_at, first_bad_from, first_bad}
 use Rattle.sheet.proofs.fields.Rules.{alone}
@@ -22,7 +22,7 @@ module _ (figures : List ℕ) where
 
   module _ (from to r : ℕ) (up : from ≤ to) (end : to ≤ 25) (p : Passed from) (e : r ≡ first_outside figures from to) where
     -- the run, and what is past it
-    both : (if eqb r 0 then first_bad_from figures to else r) ≡ first_bad figures
+    both : (ifᵇ eqb r 0 then first_bad_from figures to else r) ≡ first_bad figures
     unfolding first_bad_from first_outside
     both =
         let run : r ≡ first_from (bad_at figures) from (to - from) = e ∙ same_run (outside_at figures) (bad_at figures) 25 (alone figures) from (to - from) (omega arith) in

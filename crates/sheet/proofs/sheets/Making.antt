@@ -9,7 +9,7 @@ use borrow.Author.Tests.{eq-eqb, ne_eqb, eqb-true, eqb-false, not-false}
 use lib.Dec.{eqb}
 use lib.ListN.{length}
 use Rattle.laws.proofs.Never.{never}
-use Rattle.laws.specs.Choice.{if◌then◌else◌}
+use Rattle.laws.specs.Choice.{ifᵇ◌then◌else◌}
 use Rattle.laws.specs.Extremes.{Least}
 use Rattle.sheet.specs.Fields.{count, fields, field_at, nth, greatest, pair_bad, first_bad, Bad}
 use Rattle.sheet.specs.Packing.{listed}
@@ -65,7 +65,7 @@ module _ (v : List ℕ) (P : SheetRead → Type 0) where
   unfolding sheet_from
   from_cases fine named = go (eqb (first_bad v) 0) refl
     where
-      go : (b : Bool) → eqb (first_bad v) 0 ≡ b → P (if b then Good (sheet_of v) else NoSheet (BadField (first_bad v)))
+      go : (b : Bool) → eqb (first_bad v) 0 ≡ b → P (ifᵇ b then Good (sheet_of v) else NoSheet (BadField (first_bad v)))
       go true e = fine (eqb-true (first_bad v) 0 e)
       go false e = named (eqb-false (first_bad v) 0 e)
 

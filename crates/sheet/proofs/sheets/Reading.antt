@@ -9,7 +9,7 @@ use borrow.Author.Tests.{eqb-true, eqb-false}
 use lib.Dec.{eqb}
 use lib.ListN.{length}
 use Rattle.laws.proofs.Never.{never}
-use Rattle.laws.specs.Choice.{if◌then◌else◌}
+use Rattle.laws.specs.Choice.{ifᵇ◌then◌else◌}
 use Rattle.laws.specs.Extremes.{Least}
 use Rattle.laws.specs.Rows.{NoneBefore, Exactly}
 use Rattle.laws.proofs.Extremes.{least_only}
@@ -41,7 +41,7 @@ module _ (b : List ℕ) (P : SheetRead → Type 0) where
       v = groups_of b
 
       go : (l z : Bool) → eqb (length b) size ≡ l → eqb (nth v count) 0 ≡ z
-          → P (if l then (if z then sheet_from v else NoSheet SpareBitSet) else NoSheet WrongLength)
+          → P (ifᵇ l then (ifᵇ z then sheet_from v else NoSheet SpareBitSet) else NoSheet WrongLength)
       go true true p q =
           from_cases v P (good (eqb-true _ _ p) (eqb-true _ _ q)) (bad (first_bad v) (eqb-true _ _ p) (eqb-true _ _ q) refl)
       go true false p q = spare (eqb-true _ _ p) (eqb-false _ _ q)

@@ -10,7 +10,7 @@ use lib.Dec.{eqb, ltb}
 use lib.ListN.{length, take, drop}
 use lib.Seq.{drop_at}
 use Rattle.laws.proofs.Never.{never}
-use Rattle.laws.specs.Choice.{if◌then◌else◌}
+use Rattle.laws.specs.Choice.{ifᵇ◌then◌else◌}
 use Rattle.laws.specs.Extremes.{Least}
 use Rattle.laws.specs.Rows.{NoneBefore, Exactly}
 use Rattle.laws.proofs.Extremes.{least_only}
@@ -40,8 +40,8 @@ module _ (s : Sheet) (place : List ℕ) (P : SheetWritten → List ℕ → Type 
       v = figures_of s
 
       go : (l n : Bool) → ltb (length place) size ≡ l → eqb (first_bad v) 0 ≡ n
-          → P (if l then NotWritten PlaceTooSmall else (if n then Done else NotWritten (BadFieldToWrite (first_bad v))))
-          (if l then place else (if n then bytes_of v ++ drop size place else place))
+          → P (ifᵇ l then NotWritten PlaceTooSmall else (ifᵇ n then Done else NotWritten (BadFieldToWrite (first_bad v))))
+          (ifᵇ l then place else (ifᵇ n then bytes_of v ++ drop size place else place))
       go true n p q = small (ltb-true _ _ p)
       go false true p q = done (ltb-false _ _ p) (eqb-true _ _ q)
       go false false p q = bad (first_bad v) (ltb-false _ _ p) refl (eqb-false _ _ q)

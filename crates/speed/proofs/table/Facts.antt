@@ -6,7 +6,7 @@ use Prim.Native.Nat.{ℕ, ◌+◌, ◌-◌, ◌*◌, ◌≤◌}
 use native.Mathlib.Omega.{arith}
 use lib.Dec.{T, leb→le, le→leb}
 use lib.ListN.{get_or, replicate, get_or-replicate}
-use Rattle.laws.specs.Choice.{if◌then◌else◌, ◌≤ᵇ◌}
+use Rattle.laws.specs.Choice.{ifᵇ◌then◌else◌, ◌≤ᵇ◌}
 use Rattle.laws.specs.Every.{every}
 use Rattle.laws.proofs.Every.{where_true, holds_there, every_at}
 use Rattle.speed.specs.declared.Speed.{Speed}
@@ -20,7 +20,7 @@ in_row : (row : List ℕ) (k m : ℕ) → point_of row k ≡ Parts m → (4 ≤ 
 unfolding point_of
 in_row row k m e = go (outside k 4 16) refl e
   where
-    go : (b : Bool) → outside k 4 16 ≡ b → (if b then Missing else entry (get_or row (k - 4) 0)) ≡ Parts m
+    go : (b : Bool) → outside k 4 16 ≡ b → (ifᵇ b then Missing else entry (get_or row (k - 4) 0)) ≡ Parts m
         → (4 ≤ k) × (k ≤ 16) × (entry (get_or row (k - 4) 0) ≡ Parts m)
     go true o e = let z : ◌≡◌ {A = ℕ} 0 1 = cc in absurd (omega arith)
     go false o e = let there = inside k 4 16 o in (there.from, there.to, e)
@@ -39,7 +39,7 @@ unfolding full_row
 in_table i j k m e = go (outside i 1 5) (outside j 1 3) refl refl e
   where
     go : (a b : Bool) → outside i 1 5 ≡ a → outside j 1 3 ≡ b
-        → point_of (if a then replicate 13 dash else (if b then replicate 13 dash else get_or full_table (3 * (i - 1) + (j - 1)) [])) k ≡ Parts m
+        → point_of (ifᵇ a then replicate 13 dash else (ifᵇ b then replicate 13 dash else get_or full_table (3 * (i - 1) + (j - 1)) [])) k ≡ Parts m
         → (i ≤ 5) × (j ≤ 3) × (k ≤ 16)
     go true b width slope e = absurd (all_dashes k m e)
     go false true width slope e = absurd (all_dashes k m e)

@@ -9,7 +9,7 @@ use borrow.Author.Tests.{eq-eqb, ne_eqb}
 use lib.Dec.{eqb}
 use lib.ListN.{length, take, drop, get_or}
 use lib.Seq.{take-take, drop-cons}
-use Rattle.laws.specs.Choice.{if◌then◌else◌}
+use Rattle.laws.specs.Choice.{ifᵇ◌then◌else◌}
 use Rattle.texts.specs.Cutting.{newline, return, hash, line_of, bare, blank, passed_over}
 
 -- what stands from a place on, where something does
@@ -81,7 +81,7 @@ line_front [] = refl
 line_front (b ∷ text) = go (eqb b newline) (line_front text)
   where
     go : (t : Bool) → take (length (line_of text)) text ≡ line_of text
-        → take (length (if t then [] else b ∷ line_of text)) (b ∷ text) ≡ (if t then [] else b ∷ line_of text)
+        → take (length (ifᵇ t then [] else b ∷ line_of text)) (b ∷ text) ≡ (ifᵇ t then [] else b ∷ line_of text)
     go true further = refl
     go false further = ap (λ (l : List ℕ). b ∷ l) further
 
@@ -90,7 +90,7 @@ unfolding bare
 bare_front [] = (refl, omega arith)
 bare_front (b ∷ []) = go (eqb b return)
   where
-    go : (t : Bool) → (take (length (if t then [] else b ∷ [])) (b ∷ []) ≡ (if t then [] else b ∷ [])) × (length (if t then [] else b ∷ []) ≤ 1)
+    go : (t : Bool) → (take (length (ifᵇ t then [] else b ∷ [])) (b ∷ []) ≡ (ifᵇ t then [] else b ∷ [])) × (length (ifᵇ t then [] else b ∷ []) ≤ 1)
     go true = (refl, omega arith)
     go false = (refl, omega arith)
 bare_front (b ∷ c ∷ line) = let r = bare_front (c ∷ line) in (ap (λ (l : List ℕ). b ∷ l) r.0, omega (arith, r.1))

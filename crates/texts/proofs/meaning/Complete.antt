@@ -10,7 +10,7 @@ use lib.Dec.{ltb, eqb}
 use lib.ListN.{length}
 use lib.Seq.{ext_get_or, get_or-set_same}
 use Rattle.laws.proofs.Never.{never}
-use Rattle.laws.specs.Choice.{if◌then◌else◌, ◌<ᵇ◌, ◌=ᵇ◌}
+use Rattle.laws.specs.Choice.{ifᵇ◌then◌else◌, ◌<ᵇ◌, ◌=ᵇ◌}
 use Rattle.laws.specs.Each.{Each}
 use Rattle.sheet.specs.Fields.{nth, field, fields, field_at, least, greatest, range_of, pair_bad, bad_at, count as field_count}
 use Rattle.typed.specs.Rows.{bytes_of, count, level_row, values_of}
@@ -35,7 +35,7 @@ pub row_begins_none : (i n : ℕ) → i < count → begins_sheet (line_text i n)
 unfolding begins_sheet
 row_begins_none i n h = go (length (line_text i n) =ᵇ 5)
   where
-    go : (b : Bool) → (if b then stands (bytes_of "sheet") (line_text i n) else stands (bytes_of "sheet ") (line_text i n)) ≡ false
+    go : (b : Bool) → (ifᵇ b then stands (bytes_of "sheet") (line_text i n) else stands (bytes_of "sheet ") (line_text i n)) ≡ false
     go true = begins_no_sheet i n h
     go false = no_titled_sheet_line i n h
 
@@ -56,11 +56,11 @@ source_within v fine = not_bad_within v 26 fine
 
 -- the level's figure gives back its two fields
 module _ (v : List ℕ) (source : bad_at v 26 ≡ false) (given : bad_at v 27 ≡ false) where
-  source_back : (if row_figure v level_row =ᵇ 0 then 0 else 1) ≡ nth v 26
+  source_back : (ifᵇ row_figure v level_row =ᵇ 0 then 0 else 1) ≡ nth v 26
   unfolding row_figure
   source_back = go (eqb (nth v 26) 0) refl
     where
-      go : (b : Bool) → eqb (nth v 26) 0 ≡ b → (if (if b then 0 else nth v 27 % 65536 + 1) =ᵇ 0 then 0 else 1) ≡ nth v 26
+      go : (b : Bool) → eqb (nth v 26) 0 ≡ b → (ifᵇ (ifᵇ b then 0 else nth v 27 % 65536 + 1) =ᵇ 0 then 0 else 1) ≡ nth v 26
       go true p = sym (eqb-true (nth v 26) 0 p)
       go false p =
           let some : nth v 26 ≡ 0 → ⊥ = eqb-false (nth v 26) 0 p in
@@ -70,7 +70,7 @@ module _ (v : List ℕ) (source : bad_at v 26 ≡ false) (given : bad_at v 27 �
   unfolding row_figure
   level_figure_back = go (eqb (nth v 26) 0) refl
     where
-      go : (b : Bool) → eqb (nth v 26) 0 ≡ b → (if b then 0 else nth v 27 % 65536 + 1) - 1 ≡ nth v 27
+      go : (b : Bool) → eqb (nth v 26) 0 ≡ b → (ifᵇ b then 0 else nth v 27 % 65536 + 1) - 1 ≡ nth v 27
       go true p = sym (no_level v given (eqb-true (nth v 26) 0 p))
       go false p = omega (arith, level_within v given)
 

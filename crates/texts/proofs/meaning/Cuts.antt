@@ -8,7 +8,7 @@ use native.Mathlib.Omega.{arith}
 use lib.Dec.{eqb}
 use lib.ListN.{length, drop, length-drop, drop_of_length-le}
 use lib.Seq.{drop-drop, drop-nil}
-use Rattle.laws.specs.Choice.{if◌then◌else◌}
+use Rattle.laws.specs.Choice.{ifᵇ◌then◌else◌}
 use Rattle.texts.specs.Cutting.{newline, line_of, in_front, lines_of}
 
 -- no text has no line
@@ -25,7 +25,7 @@ unfolding lines_of line_of
 first_suc [] h = absurd (omega arith)
 first_suc (b ∷ []) h = go (eqb b newline)
   where
-    go : (t : Bool) → (if t then [] ∷ [] else (b ∷ []) ∷ []) ≡ (if t then [] else b ∷ []) ∷ lines_of (drop (length (if t then [] else b ∷ [])) [])
+    go : (t : Bool) → (ifᵇ t then [] ∷ [] else (b ∷ []) ∷ []) ≡ (ifᵇ t then [] else b ∷ []) ∷ lines_of (drop (length (ifᵇ t then [] else b ∷ [])) [])
     go true = refl
     go false = refl
 first_suc (b ∷ c ∷ text) h = go (eqb b newline) (first_suc (c ∷ text) (omega arith))
@@ -34,8 +34,8 @@ first_suc (b ∷ c ∷ text) h = go (eqb b newline) (first_suc (c ∷ text) (ome
     rest = c ∷ text
 
     go : (t : Bool) → lines_of rest ≡ line_of rest ∷ lines_of (drop (suc (length (line_of rest))) rest)
-        → (if t then [] ∷ lines_of rest else in_front b (lines_of rest))
-        ≡ (if t then [] else b ∷ line_of rest) ∷ lines_of (drop (length (if t then [] else b ∷ line_of rest)) rest)
+        → (ifᵇ t then [] ∷ lines_of rest else in_front b (lines_of rest))
+        ≡ (ifᵇ t then [] else b ∷ line_of rest) ∷ lines_of (drop (length (ifᵇ t then [] else b ∷ line_of rest)) rest)
     go true further = refl
     go false further = front_some b (line_of rest) _ (lines_of rest) further
 

@@ -9,7 +9,7 @@ use borrow.Author.Tests.{lt-ltb}
 use lib.ListN.{length, get_or, drop, length-drop}
 use lib.Seq.{drop-cons}
 use Rattle.laws.proofs.Each.{each_append}
-use Rattle.laws.specs.Choice.{if◌then◌else◌}
+use Rattle.laws.specs.Choice.{ifᵇ◌then◌else◌}
 use Rattle.laws.specs.Each.{Each}
 use Rattle.typed.specs.Rows.{bytes_of}
 use Rattle.texts.specs.Cutting.{line_of, lines_of, bare, next_number}
@@ -80,7 +80,7 @@ module _ (text : List ℕ) (few : length (lines_of text) < 4294967295) where
   told_if : (found : Found) → PlaceIn text found.place → Each (λ f. PlaceIn text f.place) (if_happened found)
   told_if found p = go (happened_in found.event)
     where
-      go : (b : Bool) → Each (λ f. PlaceIn text f.place) (if b then found ∷ [] else [])
+      go : (b : Bool) → Each (λ f. PlaceIn text f.place) (ifᵇ b then found ∷ [] else [])
       go true = (p, tt)
       go false = tt
 
@@ -139,7 +139,7 @@ module _ (text : List ℕ) (few : length (lines_of text) < 4294967295) where
 
 -- what a message quotes is the line of its number
 pub stood_there : (text : List ℕ) (place : Place) → PlaceIn text place
-    → stood_text text place ≡ (if place.ended then bytes_of "the text ends" else quoted_text (bare (get_or (lines_of text) (place.line - 1) [])))
+    → stood_text text place ≡ (ifᵇ place.ended then bytes_of "the text ends" else quoted_text (bare (get_or (lines_of text) (place.line - 1) [])))
 unfolding stood_text
 stood_there text place (on_line e low high same) = rw (e, same)
 stood_there text place (behind_last e n) = rw e

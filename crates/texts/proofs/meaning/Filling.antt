@@ -10,7 +10,7 @@ use lib.ListN.{length, set, length-set}
 use lib.Seq.{get_or-set_same, get_or-set_other}
 use Rattle.laws.proofs.First.{is_none, none_is}
 use Rattle.laws.proofs.Never.{never}
-use Rattle.laws.specs.Choice.{if◌then◌else◌, ◌<ᵇ◌, ◌=ᵇ◌}
+use Rattle.laws.specs.Choice.{ifᵇ◌then◌else◌, ◌<ᵇ◌, ◌=ᵇ◌}
 use Rattle.sheet.specs.Fields.{fields, field_at, nth, least, greatest, outside_at, pair_bad, bad_at, standing_of, first_bad, count as field_count}
 use Rattle.sheet.specs.declared.Standing.TheVariants.{Fine, Outside, Disagrees}
 use Rattle.typed.specs.Rows.{count, level_row}
@@ -43,7 +43,7 @@ pub field_of_lem : (k : ℕ) → k < count → field_of k + 1 ≡ filled (k + 1)
 unfolding field_of
 field_of_lem k h = go (row_case k h)
   where
-    go : RowCase k → (if k <ᵇ level_row then k else (if k <ᵇ count then k + 1 else field_count)) + 1 ≡ filled (k + 1)
+    go : RowCase k → (ifᵇ k <ᵇ level_row then k else (ifᵇ k <ᵇ count then k + 1 else field_count)) + 1 ≡ filled (k + 1)
     go (before_level l) = rw (lt-ltb k level_row l) (omega arith)
     go (at_level e) = rw e
     go (behind_level e) = rw e
@@ -70,8 +70,8 @@ module _ (figures : List ℕ) (k n : ℕ) (h : k < count) where
       go : RowCase k → nth (stored figures k n) j ≡ nth figures j
       go (before_level b) = rw (stored_before_level figures k n b) (get_or-set_other figures k j n 0 (λ (e : j ≡ k). omega arith))
       go (at_level e) =
-          rw (e, get_or-set_other (set figures 26 (if n =ᵇ 0 then 0 else 1)) 27 j (n - 1) 0 (λ (d : j ≡ 27). omega arith))
-          (get_or-set_other figures 26 j (if n =ᵇ 0 then 0 else 1) 0 (λ (d : j ≡ 26). omega arith))
+          rw (e, get_or-set_other (set figures 26 (ifᵇ n =ᵇ 0 then 0 else 1)) 27 j (n - 1) 0 (λ (d : j ≡ 27). omega arith))
+          (get_or-set_other figures 26 j (ifᵇ n =ᵇ 0 then 0 else 1) 0 (λ (d : j ≡ 26). omega arith))
       go (behind_level e) = rw e (get_or-set_other figures 28 j n 0 (λ (d : j ≡ 28). omega arith))
 
 -- two lists of figures agree in their first fields
@@ -84,8 +84,8 @@ unfolding bad_at pair_bad
 bad_same a b k same = rw (same k (omega arith)) (ap (λ (t : Bool). (nth b k <ᵇ least k) || ((greatest k <ᵇ nth b k) || t)) (go (eqb k 25) (eqb k 27) refl refl))
   where
     go : (s t : Bool) → eqb k 25 ≡ s → eqb k 27 ≡ t
-        → (if s then not (beq (nth a 24 =ᵇ 0) (nth a 25 =ᵇ 0)) else (if t then (nth a 26 =ᵇ 0) && not (nth a 27 =ᵇ 0) else false))
-        ≡ (if s then not (beq (nth b 24 =ᵇ 0) (nth b 25 =ᵇ 0)) else (if t then (nth b 26 =ᵇ 0) && not (nth b 27 =ᵇ 0) else false))
+        → (ifᵇ s then not (beq (nth a 24 =ᵇ 0) (nth a 25 =ᵇ 0)) else (ifᵇ t then (nth a 26 =ᵇ 0) && not (nth a 27 =ᵇ 0) else false))
+        ≡ (ifᵇ s then not (beq (nth b 24 =ᵇ 0) (nth b 25 =ᵇ 0)) else (ifᵇ t then (nth b 26 =ᵇ 0) && not (nth b 27 =ᵇ 0) else false))
     go true t p q =
         let e : k ≡ 25 = eqb-true k 25 p in
         rw (same 24 (omega arith), same 25 (omega arith))
@@ -109,7 +109,7 @@ pub not_bad_fine : (figures : List ℕ) (k : ℕ) → k < field_count → bad_at
 unfolding standing_of bad_at outside_at
 not_bad_fine figures k h e = rw (lt-leb field_count k h) (go (nth figures k <ᵇ least k) (greatest k <ᵇ nth figures k) (pair_bad figures k) e)
   where
-    go : (a b p : Bool) → (a || (b || p)) ≡ false → (if a || b then Outside else (if p then Disagrees else Fine)) ≡ Fine
+    go : (a b p : Bool) → (a || (b || p)) ≡ false → (ifᵇ a || b then Outside else (ifᵇ p then Disagrees else Fine)) ≡ Fine
     go true b p e = never cc
     go false true p e = never cc
     go false false true e = never cc
@@ -119,7 +119,7 @@ pub fine_not_bad : (figures : List ℕ) (k : ℕ) → k < field_count → standi
 unfolding standing_of bad_at outside_at
 fine_not_bad figures k h e = go (nth figures k <ᵇ least k) (greatest k <ᵇ nth figures k) (pair_bad figures k) (rw (lt-leb field_count k h) at e)
   where
-    go : (a b p : Bool) → (if a || b then Outside else (if p then Disagrees else Fine)) ≡ Fine → (a || (b || p)) ≡ false
+    go : (a b p : Bool) → (ifᵇ a || b then Outside else (ifᵇ p then Disagrees else Fine)) ≡ Fine → (a || (b || p)) ≡ false
     go true b p e = never cc
     go false true p e = never cc
     go false false true e = never cc
@@ -141,11 +141,11 @@ unfolding greatest field_at fields
 level_within figures e = not_bad_within figures 27 e
 
 -- the level's figure from its two fields
-level_back : (v : List ℕ) (n : ℕ) → nth v 26 ≡ (if n =ᵇ 0 then 0 else 1) → nth v 27 ≡ n - 1 → nth v 27 ≤ 2000 → row_figure v level_row ≡ n
+level_back : (v : List ℕ) (n : ℕ) → nth v 26 ≡ (ifᵇ n =ᵇ 0 then 0 else 1) → nth v 27 ≡ n - 1 → nth v 27 ≤ 2000 → row_figure v level_row ≡ n
 unfolding row_figure
 level_back v n source level small = rw (source, level) (go (eqb n 0) refl)
   where
-    go : (b : Bool) → eqb n 0 ≡ b → (if (if b then 0 else 1) =ᵇ 0 then 0 else (n - 1) % 65536 + 1) ≡ n
+    go : (b : Bool) → eqb n 0 ≡ b → (ifᵇ (ifᵇ b then 0 else 1) =ᵇ 0 then 0 else (n - 1) % 65536 + 1) ≡ n
     go true p = sym (eqb-true n 0 p)
     go false p =
         let some : n ≡ 0 → ⊥ = eqb-false n 0 p in
@@ -153,22 +153,22 @@ level_back v n source level small = rw (source, level) (go (eqb n 0) refl)
         omega arith
 
 module _ (figures : List ℕ) (n : ℕ) (long : length figures ≡ field_count) where
-  pub source_stored : nth (stored figures level_row n) 26 ≡ (if n =ᵇ 0 then 0 else 1)
+  pub source_stored : nth (stored figures level_row n) 26 ≡ (ifᵇ n =ᵇ 0 then 0 else 1)
   unfolding stored
   source_stored =
-      get_or-set_other (set figures 26 (if n =ᵇ 0 then 0 else 1)) 27 26 (n - 1) 0 (λ e. omega arith)
-      ∙ get_or-set_same figures 26 (if n =ᵇ 0 then 0 else 1) 0 (omega arith)
+      get_or-set_other (set figures 26 (ifᵇ n =ᵇ 0 then 0 else 1)) 27 26 (n - 1) 0 (λ e. omega arith)
+      ∙ get_or-set_same figures 26 (ifᵇ n =ᵇ 0 then 0 else 1) 0 (omega arith)
 
   pub level_stored : nth (stored figures level_row n) 27 ≡ n - 1
   unfolding stored
-  level_stored = get_or-set_same (set figures 26 (if n =ᵇ 0 then 0 else 1)) 27 (n - 1) 0 (rw length-set (omega arith))
+  level_stored = get_or-set_same (set figures 26 (ifᵇ n =ᵇ 0 then 0 else 1)) 27 (n - 1) 0 (rw length-set (omega arith))
 
   pub last_stored : nth (stored figures 27 n) 28 ≡ n
   unfolding stored
   last_stored = get_or-set_same figures 28 n 0 (omega arith)
 
 -- the source of a level is 0 or 1, and tested against no other field
-source_fine : (v : List ℕ) (b : Bool) → nth v 26 ≡ (if b then 0 else 1) → bad_at v 26 ≡ false
+source_fine : (v : List ℕ) (b : Bool) → nth v 26 ≡ (ifᵇ b then 0 else 1) → bad_at v 26 ≡ false
 unfolding bad_at pair_bad least greatest field_at fields
 source_fine v true e = rw e
 source_fine v false e = rw e

@@ -5,7 +5,7 @@ use mathlib.Core.List.{List, [], ◌∷◌, ◌++◌, append_assoc}
 use mathlib.Core.Logic.{◌↔◌}
 use Prim.Native.Nat.{ℕ}
 use Rattle.laws.proofs.Never.{never}
-use Rattle.laws.specs.Choice.{if◌then◌else◌}
+use Rattle.laws.specs.Choice.{ifᵇ◌then◌else◌}
 use Rattle.texts.specs.Cutting.{lines_of, bare, passed_over}
 use Rattle.texts.specs.Steps.{step, missing_at, step_of, line_step}
 use Rattle.texts.specs.Texts.{beginning, happened_in, if_happened, found_by, turn_on, ended_at, all_in, all_of}
@@ -53,7 +53,7 @@ faults_happened : (found : Found) → faults_of (if_happened found) ≡ fault_in
 unfolding faults_of
 faults_happened found = go found.event refl
   where
-    go : (e : Event) → found.event ≡ e → faults_of (if happened_in e then found ∷ [] else []) ≡ fault_in e found
+    go : (e : Event) → found.event ≡ e → faults_of (ifᵇ happened_in e then found ∷ [] else []) ≡ fault_in e found
     go Nothing p = refl
     go Sheet p = rw p
     go (Fault fault row) p = rw p
@@ -62,7 +62,7 @@ sheets_happened : (found : Found) → sheets_of (if_happened found) ≡ sheet_in
 unfolding sheets_of
 sheets_happened found = go found.event refl
   where
-    go : (e : Event) → found.event ≡ e → sheets_of (if happened_in e then found ∷ [] else []) ≡ sheet_in e found.cursor.figures
+    go : (e : Event) → found.event ≡ e → sheets_of (ifᵇ happened_in e then found ∷ [] else []) ≡ sheet_in e found.cursor.figures
     go Nothing p = refl
     go Sheet p = rw p
     go (Fault fault row) p = rw p

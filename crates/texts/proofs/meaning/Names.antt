@@ -8,7 +8,7 @@ use borrow.Author.Tests.{ne_eqb}
 use lib.ListN.{length, take, drop, length-take, drop_of_length-le}
 use lib.Seq.{length-take-le, take-take, take-add, drop_at, drop-drop}
 use Rattle.laws.proofs.Never.{never}
-use Rattle.laws.specs.Choice.{if◌then◌else◌}
+use Rattle.laws.specs.Choice.{ifᵇ◌then◌else◌}
 use Rattle.lines.proofs.decimals.Digits.{below_or}
 use Rattle.typed.specs.Rows.{bytes_of}
 use Rattle.typed.specs.Reading.{stands}
@@ -43,7 +43,7 @@ module _ (text : List ℕ) where
   name_line : (at : ℕ) → at < length text
       → name_at at
       ≡ (let line = bare (line_of (drop at text)) in
-      if begins_sheet line then span (at + min front_bytes (length line)) (at + length line) else name_at (place_behind text at))
+      ifᵇ begins_sheet line then span (at + min front_bytes (length line)) (at + length line) else name_at (place_behind text at))
   unfolding name_in
   name_line at h = rw (lines_from text at h)
 
@@ -56,7 +56,7 @@ module _ (text : List ℕ) where
   pub named : (at end : ℕ) → end ≡ at + length (line_of (drop at text)) → at < length text
       → (size : ℕ) → size ≡ length (bare (take (end - at) (drop at text))) → take size (take (end - at) (drop at text)) ≡ bare (take (end - at) (drop at text))
       → size ≤ end - at → (begins : Bool) → begins ≡ begins_sheet (take (at + size - at) (drop at text))
-      → name_at at ≡ (if begins then span (at + min front_bytes size) (at + size) else name_at (min (end + 1) (length text)))
+      → name_at at ≡ (ifᵇ begins then span (at + min front_bytes size) (at + size) else name_at (min (end + 1) (length text)))
   named at end e h size s t short begins b =
       let n : at + size - at ≡ size = omega arith in
       let whole = whole_line text at end e in
@@ -89,8 +89,8 @@ module _ (text : List ℕ) where
     where
       go : (b : Bool) → bytes_in text (span (at + min front_bytes (length (bare line))) (at + length (bare line))) ≡ drop front_bytes (bare line)
           → bytes_in text (name_in (length text) (min (at + length line + 1) (length text)) lines) ≡ name_from lines
-          → bytes_in text (if b then span (at + min front_bytes (length (bare line))) (at + length (bare line)) else name_in (length text) (min (at + length line + 1) (length text)) lines)
-          ≡ (if b then drop front_bytes (bare line) else name_from lines)
+          → bytes_in text (ifᵇ b then span (at + min front_bytes (length (bare line))) (at + length (bare line)) else name_in (length text) (min (at + length line + 1) (length text)) lines)
+          ≡ (ifᵇ b then drop front_bytes (bare line) else name_from lines)
       go true here further = here
       go false here further = further
 

@@ -12,7 +12,7 @@ use lib.ListN.{length, set}
 use lib.Seq.{get_or-set_same, get_or-set_other}
 use Rattle.laws.proofs.Never.{never}
 use Rattle.laws.proofs.Rows.{stop, past, Call, bare, Told, exactly}
-use Rattle.laws.specs.Choice.{if◌then◌else◌, ◌<ᵇ◌, ◌=ᵇ◌}
+use Rattle.laws.specs.Choice.{ifᵇ◌then◌else◌, ◌<ᵇ◌, ◌=ᵇ◌}
 use Rattle.laws.specs.Rows.{Row, ◌when◌, Exactly}
 use Rattle.sheet.specs.Fields.{fields, field_at, nth, field, least, greatest, outside_at, pair_bad, standing_of, range_of, count as field_count}
 use Rattle.sheet.specs.declared.Standing.{Standing}
@@ -75,7 +75,7 @@ level_pair : (figures : List ℕ) (n : ℕ) → length figures ≡ field_count �
 unfolding pair_bad
 level_pair figures n long = rw (source_stored figures n long, level_stored figures n long) (go (eqb n 0) refl)
   where
-    go : (b : Bool) → eqb n 0 ≡ b → (((if b then 0 else 1) =ᵇ 0) && not (n - 1 =ᵇ 0)) ≡ false
+    go : (b : Bool) → eqb n 0 ≡ b → (((ifᵇ b then 0 else 1) =ᵇ 0) && not (n - 1 =ᵇ 0)) ≡ false
     go true p = let e : n ≡ 0 = eqb-true n 0 p in rw e
     go false p = refl
 
@@ -84,7 +84,7 @@ unfolding pair_bad
 last_pair v = refl
 
 pair_before : (figures : List ℕ) (k n : ℕ) → k < level_row → length figures ≡ field_count → (b : Bool) → eqb k 25 ≡ b
-    → pair_bad (stored figures k n) k ≡ (if b then not (beq (field figures 25 =ᵇ 0) (n =ᵇ 0)) else false)
+    → pair_bad (stored figures k n) k ≡ (ifᵇ b then not (beq (field figures 25 =ᵇ 0) (n =ᵇ 0)) else false)
 unfolding pair_bad
 pair_before figures k n l long true p =
     let e : k ≡ 25 = eqb-true k 25 p in
@@ -107,10 +107,10 @@ module _ (figures : List ℕ) (k n : ℕ) (h : k < count) (long : length figures
       go (behind_level e) = rw (e, field_last, last_stored figures n long)
 
   -- and only turn and radius are tested against each other
-  pair_row : pair_bad (stored figures k n) (field_of k) ≡ (if k =ᵇ 25 then not (beq (field figures 25 =ᵇ 0) (n =ᵇ 0)) else false)
+  pair_row : pair_bad (stored figures k n) (field_of k) ≡ (ifᵇ k =ᵇ 25 then not (beq (field figures 25 =ᵇ 0) (n =ᵇ 0)) else false)
   pair_row = go (row_case k h)
     where
-      go : RowCase k → pair_bad (stored figures k n) (field_of k) ≡ (if k =ᵇ 25 then not (beq (field figures 25 =ᵇ 0) (n =ᵇ 0)) else false)
+      go : RowCase k → pair_bad (stored figures k n) (field_of k) ≡ (ifᵇ k =ᵇ 25 then not (beq (field figures 25 =ᵇ 0) (n =ᵇ 0)) else false)
       go (before_level l) = rw (field_before k l) (pair_before figures k n l long (eqb k 25) refl)
       go (at_level e) = rw (e, field_level) (level_pair figures n long)
       go (behind_level e) = rw (e, field_last) (last_pair (stored figures 27 n))
@@ -135,8 +135,8 @@ disagree_test turn radius a b p q = (yes a b p q, apart a b p q)
     apart false false p q e (inr d) = eqb-false radius 0 q d.1
 
 pair_test : (k turn n : ℕ) (b : Bool) → eqb k 25 ≡ b
-    → ((if b then not (beq (turn =ᵇ 0) (n =ᵇ 0)) else false) ≡ true → (k ≡ 25) × Disagree turn n)
-    × ((if b then not (beq (turn =ᵇ 0) (n =ᵇ 0)) else false) ≡ false → (k ≡ 25) × Disagree turn n → ⊥)
+    → ((ifᵇ b then not (beq (turn =ᵇ 0) (n =ᵇ 0)) else false) ≡ true → (k ≡ 25) × Disagree turn n)
+    × ((ifᵇ b then not (beq (turn =ᵇ 0) (n =ᵇ 0)) else false) ≡ false → (k ≡ 25) × Disagree turn n → ⊥)
 pair_test k turn n true p =
     let t = disagree_test turn n (turn =ᵇ 0) (n =ᵇ 0) refl refl in
     (λ e. (eqb-true k 25 p, t.0 e), λ e d. t.1 e d.1)
@@ -163,18 +163,18 @@ module _ (figures : List ℕ) (k : ℕ) (h : k < count) (long : length figures �
       v : List ℕ
       v = stored figures k n
 
-      done : (b : Bool) → event_number (if b then step (InRow (k + 1)) v Nothing else step Between v Sheet).event ≡ 0
+      done : (b : Bool) → event_number (ifᵇ b then step (InRow (k + 1)) v Nothing else step Between v Sheet).event ≡ 0
       done true = refl
       done false = refl
 
       go : (a b : Bool) → outside_at v (field_of k) ≡ a → pair_bad v (field_of k) ≡ b
-          → Told telling (figure_rows k figures n) (accepted_by (if a then Outside else (if b then DisagreesThere else Fine)) v k).event
+          → Told telling (figure_rows k figures n) (accepted_by (ifᵇ a then Outside else (ifᵇ b then DisagreesThere else Fine)) v k).event
       go true b p q = stop ((outside_test n (values_of k).least (values_of k).greatest).0 (sym (outside_row figures k n h long) ∙ p)) (refl, tt)
       go false b p q =
           past ((outside_test n (values_of k).least (values_of k).greatest).1 (sym (outside_row figures k n h long) ∙ p)) (pairs b q)
         where
           pairs : (b : Bool) → pair_bad v (field_of k) ≡ b
-              → Told telling ((9 when ((k ≡ 25) × Disagree (field figures 25) n)) ∷ []) (accepted_by (if b then DisagreesThere else Fine) v k).event
+              → Told telling ((9 when ((k ≡ 25) × Disagree (field figures 25) n)) ∷ []) (accepted_by (ifᵇ b then DisagreesThere else Fine) v k).event
           pairs true q = stop ((pair_test k (field figures 25) n (eqb k 25) refl).0 (sym (pair_row figures k n h long) ∙ q)) (refl, tt)
           pairs false q = past ((pair_test k (field figures 25) n (eqb k 25) refl).1 (sym (pair_row figures k n h long) ∙ q)) (done (k <ᵇ 27), tt)
 
@@ -229,7 +229,7 @@ module _ (figures : List ℕ) (k : ℕ) (line : List ℕ) (h : k < count) (long 
           ((4 when ((i : ℕ) × (i < k) × (named line i ≡ true)))
           ∷ (5 when ((i : ℕ) × (k < i) × (i < count) × (named line i ≡ true)))
           ∷ behind_rows k figures line)
-          (Fault (if b then Twice else Misplaced) k)
+          (Fault (ifᵇ b then Twice else Misplaced) k)
       placed some true p = stop (row_named line, ltb-true (row_named line) k p, (row_named_exactly line (row_named line) some).0 refl) (refl, tt)
       placed some false p =
           let l : k ≤ row_named line = ltb-false (row_named line) k p in
@@ -238,7 +238,7 @@ module _ (figures : List ℕ) (k : ℕ) (line : List ℕ) (h : k < count) (long 
           (stop (row_named line, omega arith, some, (row_named_exactly line (row_named line) some).0 refl) (refl, tt))
 
       go : (b : Bool) → eqb (row_named line) count ≡ b
-          → Told telling (name_rows k figures line) (Fault (if b then NoName else (if row_named line <ᵇ k then Twice else Misplaced)) k)
+          → Told telling (name_rows k figures line) (Fault (ifᵇ b then NoName else (ifᵇ row_named line <ᵇ k then Twice else Misplaced)) k)
       go true p = stop ((no_row_named_exactly line).0 (eqb-true (row_named line) count p)) (refl, tt)
       go false p =
           let d : row_named line ≡ count → ⊥ = eqb-false (row_named line) count p in
@@ -286,8 +286,8 @@ module _ (figures : List ℕ) (k : ℕ) (line : List ℕ) where
   accepted_way DisagreesThere v = inr (record { fault = Disagrees; told = refl; then_skips = refl })
   accepted_way Fine v = go (k <ᵇ 27)
     where
-      go : (b : Bool) → (event_number (if b then step (InRow (k + 1)) v Nothing else step Between v Sheet).event ≡ 0)
-          ⊎ RefusedAt k (if b then step (InRow (k + 1)) v Nothing else step Between v Sheet)
+      go : (b : Bool) → (event_number (ifᵇ b then step (InRow (k + 1)) v Nothing else step Between v Sheet).event ≡ 0)
+          ⊎ RefusedAt k (ifᵇ b then step (InRow (k + 1)) v Nothing else step Between v Sheet)
       go true = inl refl
       go false = inl refl
 

@@ -7,7 +7,7 @@ use native.Mathlib.Omega.{arith}
 use lib.Dec.{T, eqb, leb, ltb→lt}
 use lib.ListN.{length, take, drop, length-append, length-take, length-map}
 use Rattle.laws.proofs.Every.{every_at}
-use Rattle.laws.specs.Choice.{if◌then◌else◌, ◌<ᵇ◌}
+use Rattle.laws.specs.Choice.{ifᵇ◌then◌else◌, ◌<ᵇ◌}
 use Rattle.laws.specs.Every.{every}
 use Rattle.lines.proofs.Promises.{count_fits}
 use Rattle.sheet.specs.Fields.{fields, field_at, greatest, range_of, first_bad}
@@ -36,7 +36,7 @@ pub sheet_fits : (figures : List ℕ) → length (sheet_text figures) ≤ sheet_
 unfolding sheet_text
 sheet_fits figures = go (eqb (first_bad figures) 0)
   where
-    go : (b : Bool) → length (if b then packed_of figures else []) ≤ sheet_bytes
+    go : (b : Bool) → length (ifᵇ b then packed_of figures else []) ≤ sheet_bytes
     go true = omega (arith, bytes_length figures)
     go false = omega arith
 
@@ -130,7 +130,7 @@ quoted_fits : (line : List ℕ) → length (quoted_text line) ≤ 64
 unfolding quoted_text
 quoted_fits line = go (leb (length line) seen)
   where
-    go : (b : Bool) → length (if b then seen_text line else seen_text line ++ bytes_of "..") ≤ 64
+    go : (b : Bool) → length (ifᵇ b then seen_text line else seen_text line ++ bytes_of "..") ≤ 64
     go true = omega (arith, seen_fits line)
     go false = omega (arith, length-append (seen_text line) (bytes_of ".."), seen_fits line)
 
@@ -138,7 +138,7 @@ stood_fits : (text : List ℕ) (place : Place) → length (stood_text text place
 unfolding stood_text
 stood_fits text place = go place.ended
   where
-    go : (b : Bool) → length (if b then bytes_of "the text ends" else quoted_text (take (place.end - place.start) (drop place.start text))) ≤ 64
+    go : (b : Bool) → length (ifᵇ b then bytes_of "the text ends" else quoted_text (take (place.end - place.start) (drop place.start text))) ≤ 64
     go true = omega arith
     go false = quoted_fits (take (place.end - place.start) (drop place.start text))
 

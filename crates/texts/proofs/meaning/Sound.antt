@@ -8,7 +8,7 @@ use native.Mathlib.Omega.{arith}
 use borrow.Author.Tests.{ltb-true, ltb-false}
 use lib.Dec.{ltb}
 use lib.ListN.{length}
-use Rattle.laws.specs.Choice.{if◌then◌else◌, ◌<ᵇ◌}
+use Rattle.laws.specs.Choice.{ifᵇ◌then◌else◌, ◌<ᵇ◌}
 use Rattle.laws.specs.Each.{Each}
 use Rattle.sheet.specs.Fields.{bad_at, standing_of, count as field_count}
 use Rattle.sheet.specs.declared.Standing.{Standing}
@@ -42,7 +42,7 @@ other_step_lem stage figures line e = rw e
 
 -- the step of a row's line: on to the next row, or the sheet is whole
 abbrev pub row_done : List ℕ → ℕ → Step
-row_done figures k = if k <ᵇ 27 then step (InRow (k + 1)) figures Nothing else step Between figures Sheet
+row_done figures k = ifᵇ k <ᵇ 27 then step (InRow (k + 1)) figures Nothing else step Between figures Sheet
 
 -- a line in the place of a row that brings no fault says a figure that stands well
 pub record RowRead (figures : List ℕ) (k : ℕ) (line : List ℕ) (s : Step) : Type 0 where

@@ -9,7 +9,7 @@ use borrow.Author.Tests.{ltb-true, ltb-false}
 use lib.Dec.{ltb}
 use lib.ListN.{length, drop}
 use Rattle.laws.proofs.Never.{never}
-use Rattle.laws.specs.Choice.{if◌then◌else◌}
+use Rattle.laws.specs.Choice.{ifᵇ◌then◌else◌}
 use Rattle.texts.specs.Cutting.{line_of}
 use Rattle.texts.specs.Texts.{beginning, happened_in, if_happened, turn_on, ended_at, found_in, next_of, all_in, all_of}
 use Rattle.texts.specs.Typed.{all_from}
@@ -30,7 +30,7 @@ module _ (text : List ℕ) where
 
   -- the next thing is on this line, or from the next on
   pub next_line : (c : Cursor) → c.at < length text
-      → next_of text c ≡ (if happened_in (turn_at c).event then turn_at c else next_of text (turn_at c).cursor)
+      → next_of text c ≡ (ifᵇ happened_in (turn_at c).event then turn_at c else next_of text (turn_at c).cursor)
   unfolding next_of found_in turn_on
   next_line c h = rw (lines_from text c.at h)
 
@@ -77,7 +77,7 @@ module _ (text : List ℕ) where
   taken_end : (c : Cursor) → length text ≤ c.at → Taken (next_of text c) (all_from text c)
   taken_end c h = rw (next_end c h, all_end c h) (go (happened_in (ended_at c).event) refl)
     where
-      go : (b : Bool) → happened_in (ended_at c).event ≡ b → Taken (ended_at c) (if b then ended_at c ∷ [] else [])
+      go : (b : Bool) → happened_in (ended_at c).event ≡ b → Taken (ended_at c) (ifᵇ b then ended_at c ∷ [] else [])
       go true e = first e (rw (over_end c h))
       go false e = none e refl
 
@@ -86,7 +86,7 @@ module _ (text : List ℕ) where
   taken_line c h further = rw (next_line c h, all_line c h) (go (happened_in (turn_at c).event) refl further)
     where
       go : (b : Bool) → happened_in (turn_at c).event ≡ b → Taken (next_of text (turn_at c).cursor) (all_from text (turn_at c).cursor)
-          → Taken (if b then turn_at c else next_of text (turn_at c).cursor) ((if b then turn_at c ∷ [] else []) ++ all_from text (turn_at c).cursor)
+          → Taken (ifᵇ b then turn_at c else next_of text (turn_at c).cursor) ((ifᵇ b then turn_at c ∷ [] else []) ++ all_from text (turn_at c).cursor)
       go true e further = first e refl
       go false e further = further
 
@@ -118,7 +118,7 @@ module _ (text : List ℕ) where
       rw (next_line c h) (go (happened_in (turn_at c).event) (omega (arith, turn_place c, place_on text c.at h)) further)
     where
       go : (b : Bool) → c.at ≤ (turn_at c).cursor.at → (turn_at c).cursor.at ≤ (next_of text (turn_at c).cursor).cursor.at
-          → c.at ≤ (if b then turn_at c else next_of text (turn_at c).cursor).cursor.at
+          → c.at ≤ (ifᵇ b then turn_at c else next_of text (turn_at c).cursor).cursor.at
       go true l further = l
       go false l further = omega arith
 

@@ -8,7 +8,7 @@ use native.Mathlib.Omega.{arith}
 use borrow.Author.Tests.{ne_eqb}
 use lib.ListN.{length, get_or}
 use Rattle.laws.proofs.Each.{each_append, each_implied}
-use Rattle.laws.specs.Choice.{if◌then◌else◌, ◌=ᵇ◌}
+use Rattle.laws.specs.Choice.{ifᵇ◌then◌else◌, ◌=ᵇ◌}
 use Rattle.laws.specs.Each.{Each}
 use Rattle.typed.specs.Rows.{bytes_of, count}
 use Rattle.typed.specs.Lines.{line_text}
@@ -85,7 +85,7 @@ pub title_kept : (title : List ℕ) → begins_sheet title ≡ true → passed_o
 unfolding begins_sheet
 title_kept title e = go (length title =ᵇ 5) e
   where
-    go : (b : Bool) → (if b then stands (bytes_of "sheet") title else stands (bytes_of "sheet ") title) ≡ true → passed_over title ≡ false
+    go : (b : Bool) → (ifᵇ b then stands (bytes_of "sheet") title else stands (bytes_of "sheet ") title) ≡ true → passed_over title ≡ false
     go true e = rw (stands_front (bytes_of "sheet") title e) (letter_kept _ (omega arith) (omega arith))
     go false e = rw (stands_front (bytes_of "sheet ") title e) (letter_kept _ (omega arith) (omega arith))
 

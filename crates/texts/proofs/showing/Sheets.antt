@@ -9,7 +9,7 @@ use borrow.Rule.Slice.PartMut.{mid_of, put_mid}
 use lib.Dec.{eqb}
 use lib.ListN.{length, drop, length-drop, drop_of_length-le}
 use lib.Seq.{take_all, drop-drop}
-use Rattle.laws.specs.Choice.{if◌then◌else◌}
+use Rattle.laws.specs.Choice.{ifᵇ◌then◌else◌}
 use Rattle.lines.specs.Lines.{with_text, Put}
 use Rattle.lines.proofs.putting.Placing.{put_none}
 use Rattle.sheet.specs.Fields.{count, first_bad}
@@ -29,7 +29,7 @@ module _ (figures : List ℕ) where
   unfolding sheet_from
   none_bad s e = go (eqb (first_bad figures) 0) refl e
     where
-      go : (b : Bool) → eqb (first_bad figures) 0 ≡ b → (if b then Good (sheet_of figures) else NoSheet (BadField (first_bad figures))) ≡ Good s → first_bad figures ≡ 0
+      go : (b : Bool) → eqb (first_bad figures) 0 ≡ b → (ifᵇ b then Good (sheet_of figures) else NoSheet (BadField (first_bad figures))) ≡ Good s → first_bad figures ≡ 0
       go true q e = eqb-true _ _ q
       go false q e = let z : ◌≡◌ {A = ℕ} 0 1 = cc in absurd (omega arith)
 

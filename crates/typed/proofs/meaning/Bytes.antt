@@ -8,7 +8,7 @@ use native.Mathlib.Nat.{min-le_left}
 use native.Mathlib.Omega.{arith}
 use lib.Dec.{T, leb→le}
 use lib.ListN.{length, get_or, take, drop, length-append, length-take, get_or-append}
-use Rattle.laws.specs.Choice.{if◌then◌else◌, ◌≤ᵇ◌, ◌<ᵇ◌, ◌=ᵇ◌}
+use Rattle.laws.specs.Choice.{ifᵇ◌then◌else◌, ◌≤ᵇ◌, ◌<ᵇ◌, ◌=ᵇ◌}
 use Rattle.laws.specs.Each.{Each}
 use Rattle.laws.specs.Every.{every}
 use Rattle.laws.proofs.Each.{each_append, each_implied}
@@ -47,7 +47,7 @@ unfolding token
 each_token [] p = tt
 each_token (b ∷ s) p = go (b =ᵇ space) (each_token s p.1)
   where
-    go : (t : Bool) → Each Plain (token s) → Each Plain (if t then [] else b ∷ token s)
+    go : (t : Bool) → Each Plain (token s) → Each Plain (ifᵇ t then [] else b ∷ token s)
     go true q = tt
     go false q = (p.0, q)
 
@@ -121,7 +121,7 @@ level_plain n = go (n =ᵇ 0) (n <ᵇ level_zero)
 
     go : (a b : Bool)
         → Each Plain
-        (if a then bytes_of "record" else bytes_of "given " ++ (if b then minus ∷ count_text (level_zero - n) else count_text (n - level_zero)))
+        (ifᵇ a then bytes_of "record" else bytes_of "given " ++ (ifᵇ b then minus ∷ count_text (level_zero - n) else count_text (n - level_zero)))
     go true b = plain_each (bytes_of "record") tt
     go false true = given (minus ∷ count_text (level_zero - n)) ((omega arith, omega arith), count_plain (level_zero - n))
     go false false = given (count_text (n - level_zero)) (count_plain (n - level_zero))
@@ -138,7 +138,7 @@ behind_plain : (unit : List ℕ) → Each Plain unit → Each Plain (behind unit
 unfolding behind
 behind_plain unit p = go (get_or unit 0 0 =ᵇ space)
   where
-    go : (t : Bool) → Each Plain (if t then [] else space ∷ token unit)
+    go : (t : Bool) → Each Plain (ifᵇ t then [] else space ∷ token unit)
     go true = tt
     go false = ((omega arith, omega arith), each_token unit p)
 
@@ -149,7 +149,7 @@ unit_by_plain Hundredths unit n p = behind_plain unit p
 unit_by_plain Words unit n p = behind_plain unit p
 unit_by_plain Level unit n p = go (n =ᵇ 0)
   where
-    go : (t : Bool) → Each Plain (if t then [] else behind unit)
+    go : (t : Bool) → Each Plain (ifᵇ t then [] else behind unit)
     go true = tt
     go false = behind_plain unit p
 
@@ -197,7 +197,7 @@ unfolding token
 token_most [] = omega arith
 token_most (b ∷ s) = go (b =ᵇ space) (token_most s)
   where
-    go : (t : Bool) → length (token s) ≤ length s → length (if t then [] else b ∷ token s) ≤ suc (length s)
+    go : (t : Bool) → length (token s) ≤ length s → length (ifᵇ t then [] else b ∷ token s) ≤ suc (length s)
     go true h = omega arith
     go false h = omega arith
 
@@ -205,7 +205,7 @@ behind_most : (unit : List ℕ) → length (behind unit) ≤ length unit + 1
 unfolding behind
 behind_most unit = go (get_or unit 0 0 =ᵇ space)
   where
-    go : (t : Bool) → length (if t then [] else space ∷ token unit) ≤ length unit + 1
+    go : (t : Bool) → length (ifᵇ t then [] else space ∷ token unit) ≤ length unit + 1
     go true = omega arith
     go false = omega (arith, token_most unit)
 
@@ -216,7 +216,7 @@ unit_most Hundredths unit n = behind_most unit
 unit_most Words unit n = behind_most unit
 unit_most Level unit n = go (n =ᵇ 0)
   where
-    go : (t : Bool) → length (if t then [] else behind unit) ≤ length unit + 1
+    go : (t : Bool) → length (ifᵇ t then [] else behind unit) ≤ length unit + 1
     go true = omega arith
     go false = behind_most unit
 
@@ -226,7 +226,7 @@ level_most n h = go (n =ᵇ 0) (n <ᵇ level_zero)
   where
     go : (a b : Bool)
         → length
-        (if a then bytes_of "record" else bytes_of "given " ++ (if b then minus ∷ count_text (level_zero - n) else count_text (n - level_zero)))
+        (ifᵇ a then bytes_of "record" else bytes_of "given " ++ (ifᵇ b then minus ∷ count_text (level_zero - n) else count_text (n - level_zero)))
         ≤ 27
     go true b = omega arith
     go false true = omega (arith, count_fits (level_zero - n) (omega arith))

@@ -8,7 +8,7 @@ use native.Mathlib.Omega.{arith}
 use borrow.Author.Tests.{eq-eqb, eqb-true}
 use lib.Dec.{T, eqb}
 use lib.ListN.{length, drop}
-use Rattle.laws.specs.Choice.{if◌then◌else◌, ◌=ᵇ◌}
+use Rattle.laws.specs.Choice.{ifᵇ◌then◌else◌, ◌=ᵇ◌}
 use Rattle.typed.specs.Reading.{stands, same}
 
 pub stands_front : (text bytes : List ℕ) → stands text bytes ≡ true → bytes ≡ text ++ drop (length text) bytes
@@ -18,7 +18,7 @@ stands_front (a ∷ text) [] e = let z : ◌≡◌ {A = ℕ} 0 1 = cc in absurd 
 stands_front (a ∷ text) (b ∷ bytes) e = go (eqb a b) refl (stands_front text bytes) e
   where
     go : (t : Bool) → eqb a b ≡ t → (stands text bytes ≡ true → bytes ≡ text ++ drop (length text) bytes)
-        → (if t then stands text bytes else false) ≡ true → b ∷ bytes ≡ a ∷ (text ++ drop (length text) bytes)
+        → (ifᵇ t then stands text bytes else false) ≡ true → b ∷ bytes ≡ a ∷ (text ++ drop (length text) bytes)
     go true q further e = let p : a ≡ b = eqb-true a b q in rw p (ap (λ (l : List ℕ). b ∷ l) (further e))
     go false q further e = let z : ◌≡◌ {A = ℕ} 0 1 = cc in absurd (omega arith)
 
@@ -47,7 +47,7 @@ longer [] (b ∷ bytes) l e = absurd (omega arith)
 longer (a ∷ text) [] l e = absurd (omega arith)
 longer (a ∷ text) (b ∷ bytes) l e = go (eqb a b) refl (longer text bytes (omega arith)) e
   where
-    go : (t : Bool) → eqb a b ≡ t → (stands text bytes ≡ true → bytes ≡ text) → (if t then stands text bytes else false) ≡ true
+    go : (t : Bool) → eqb a b ≡ t → (stands text bytes ≡ true → bytes ≡ text) → (ifᵇ t then stands text bytes else false) ≡ true
         → b ∷ bytes ≡ a ∷ text
     go true q further e = let p : a ≡ b = eqb-true a b q in rw (p, further e)
     go false q further e = let z : ◌≡◌ {A = ℕ} 0 1 = cc in absurd (omega arith)
@@ -56,7 +56,7 @@ pub same_text : (text bytes : List ℕ) → same text bytes ≡ true → bytes �
 unfolding same
 same_text text bytes e = go (eqb (length text) (length bytes)) refl e
   where
-    go : (t : Bool) → eqb (length text) (length bytes) ≡ t → (if t then stands text bytes else false) ≡ true → bytes ≡ text
+    go : (t : Bool) → eqb (length text) (length bytes) ≡ t → (ifᵇ t then stands text bytes else false) ≡ true → bytes ≡ text
     go true q e = longer text bytes (eqb-true _ _ q) e
     go false q e = let z : ◌≡◌ {A = ℕ} 0 1 = cc in absurd (omega arith)
 
@@ -68,7 +68,7 @@ text_same text = rw (eq-eqb (length text) (length text) refl) (rw append-nil at 
 unfoldable pub differs : List ℕ → List ℕ → Bool
 differs [] b = false
 differs (x ∷ a) [] = false
-differs (x ∷ a) (y ∷ b) = if x =ᵇ y then differs a b else true
+differs (x ∷ a) (y ∷ b) = ifᵇ x =ᵇ y then differs a b else true
 
 pub differ_stands : (a b rest : List ℕ) → T (differs a b) → stands a (b ++ rest) ≡ false
 unfolding differs stands
@@ -76,8 +76,8 @@ differ_stands [] b rest t = absurd t
 differ_stands (x ∷ a) [] rest t = absurd t
 differ_stands (x ∷ a) (y ∷ b) rest t = go (eqb x y) (differ_stands a b rest) t
   where
-    go : (e : Bool) → (T (differs a b) → stands a (b ++ rest) ≡ false) → T (if e then differs a b else true)
-        → (if e then stands a (b ++ rest) else false) ≡ false
+    go : (e : Bool) → (T (differs a b) → stands a (b ++ rest) ≡ false) → T (ifᵇ e then differs a b else true)
+        → (ifᵇ e then stands a (b ++ rest) else false) ≡ false
     go true further t = further t
     go false further t = refl
 

@@ -8,7 +8,7 @@ use Prim.Native.Nat.{ℕ, zero, suc, ◌+◌, ◌-◌, ◌≤◌, ◌<◌}
 use native.Mathlib.Omega.{arith}
 use borrow.Author.Tests.{eqb-true, eqb-false, ne_eqb}
 use lib.Dec.{T}
-use Rattle.laws.specs.Choice.{if◌then◌else◌, ◌=ᵇ◌}
+use Rattle.laws.specs.Choice.{ifᵇ◌then◌else◌, ◌=ᵇ◌}
 use Rattle.laws.specs.Every.{every}
 use Rattle.laws.specs.First.{first_of}
 use Rattle.laws.proofs.Every.{where_true, holds_there, every_at}
@@ -79,7 +79,7 @@ module _ (line : List ℕ) where
   unfolding row_named
   has_its_name i h e = go (found =ᵇ 0) refl e
     where
-      go : (b : Bool) → (found =ᵇ 0) ≡ b → (if b then count else found - 1) ≡ i → named line i ≡ true
+      go : (b : Bool) → (found =ᵇ 0) ≡ b → (ifᵇ b then count else found - 1) ≡ i → named line i ≡ true
       go true p e = absurd (omega arith)
       go false p e =
           let some : found ≢ 0 = eqb-false found 0 p in
@@ -90,7 +90,7 @@ module _ (line : List ℕ) where
   unfolding row_named
   has_no_name e = go (found =ᵇ 0) refl e
     where
-      go : (b : Bool) → (found =ᵇ 0) ≡ b → (if b then count else found - 1) ≡ count → (i : ℕ) → i < count → named line i ≡ false
+      go : (b : Bool) → (found =ᵇ 0) ≡ b → (ifᵇ b then count else found - 1) ≡ count → (i : ℕ) → i < count → named line i ≡ false
       go true p e = is_none (named line) count (eqb-true found 0 p)
       go false p e =
           let some : found ≢ 0 = eqb-false found 0 p in
@@ -101,7 +101,7 @@ module _ (line : List ℕ) where
   unfolding row_named
   row_within = go found refl (found =ᵇ 0) refl
     where
-      go : (f : ℕ) → found ≡ f → (b : Bool) → (found =ᵇ 0) ≡ b → (if b then count else found - 1) ≤ count
+      go : (f : ℕ) → found ≡ f → (b : Bool) → (found =ᵇ 0) ≡ b → (ifᵇ b then count else found - 1) ≤ count
       go f e true p = omega arith
       go zero e false p = omega arith
       go (suc f) e false p = omega (arith, (is_first (named line) count f (e ∙ omega arith)).within)

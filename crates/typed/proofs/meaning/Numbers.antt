@@ -8,7 +8,7 @@ use Prim.Native.Nat.{ℕ, zero, suc, ◌+◌, ◌-◌, ◌*◌, ◌/◌, ◌%◌
 use native.Mathlib.Omega.{arith}
 use borrow.Author.Tests.{ltb-true, ltb-false, lt-ltb, le-ltb, le-leb, eqb-true, eqb-false, ne_eqb}
 use lib.ListN.{length, get_or, length-map}
-use Rattle.laws.specs.Choice.{if◌then◌else◌, ◌<ᵇ◌, ◌=ᵇ◌}
+use Rattle.laws.specs.Choice.{ifᵇ◌then◌else◌, ◌<ᵇ◌, ◌=ᵇ◌}
 use Rattle.laws.specs.Each.{Each}
 use Rattle.lines.specs.Decimals.{digits, value_behind, byte_of, minus, count_text}
 use Rattle.lines.specs.Lines.{space}
@@ -95,7 +95,7 @@ unit_ends : (v : ℕ) (unit : List ℕ) → digits_read v (behind unit) ≡ v
 unfolding behind digits_read
 unit_ends v unit = go (get_or unit 0 0 =ᵇ space)
   where
-    go : (t : Bool) → digits_read v (if t then [] else space ∷ token unit) ≡ v
+    go : (t : Bool) → digits_read v (ifᵇ t then [] else space ∷ token unit) ≡ v
     go true = refl
     go false = read_stop v space (token unit) (omega arith)
 
@@ -142,8 +142,8 @@ level_back n unit h = go (n =ᵇ 0) refl (n <ᵇ level_zero) refl
   where
     go : (a : Bool) → (n =ᵇ 0) ≡ a → (b : Bool) → (n <ᵇ level_zero) ≡ b
         → level_guess
-        ((if a then bytes_of "record" else bytes_of "given " ++ (if b then minus ∷ count_text (level_zero - n) else count_text (n - level_zero)))
-        ++ (if a then [] else behind unit))
+        ((ifᵇ a then bytes_of "record" else bytes_of "given " ++ (ifᵇ b then minus ∷ count_text (level_zero - n) else count_text (n - level_zero)))
+        ++ (ifᵇ a then [] else behind unit))
         ≡ n
     go true p b q = level_record ∙ sym (eqb-true n 0 p)
     go false p true q =

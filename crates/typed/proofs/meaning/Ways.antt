@@ -6,7 +6,7 @@ use mathlib.Core.Logic.{◌↔◌, ◌≢◌}
 use Prim.Native.Nat.{ℕ}
 use native.Mathlib.Omega.{arith}
 use lib.ListN.{length, drop}
-use Rattle.laws.specs.Choice.{if◌then◌else◌}
+use Rattle.laws.specs.Choice.{ifᵇ◌then◌else◌}
 use Rattle.typed.specs.Rows.{row_at}
 use Rattle.typed.specs.Lines.{name_text, figure_text, front_text, row_text, line_text}
 use Rattle.typed.specs.Reading.{stands, same, guessed, entry_on, entry_by, entry_of, named}
@@ -36,7 +36,7 @@ way r line =
   where
     go : (a b c : Bool) → stands (name_text r) line ≡ a → stands (front_text r (guess_in r line)) line ≡ b
         → same (row_text r (guess_in r line)) line ≡ c
-        → Way r line (if a then (if b then (if c then Figure (guess_in r line) else NoUnit) else NoFigure) else NoName)
+        → Way r line (ifᵇ a then (ifᵇ b then (ifᵇ c then Figure (guess_in r line) else NoUnit) else NoFigure) else NoName)
     go false b c p q s = no_name refl p
     go true false c p q s = no_figure refl p q
     go true true false p q s = no_unit refl q s

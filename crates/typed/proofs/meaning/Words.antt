@@ -7,7 +7,7 @@ use native.Mathlib.Omega.{arith}
 use borrow.Author.Tests.{ne_eqb}
 use lib.Dec.{T, ltb→lt}
 use lib.ListN.{length}
-use Rattle.laws.specs.Choice.{if◌then◌else◌, ◌<ᵇ◌, ◌=ᵇ◌}
+use Rattle.laws.specs.Choice.{ifᵇ◌then◌else◌, ◌<ᵇ◌, ◌=ᵇ◌}
 use Rattle.laws.specs.Every.{every}
 use Rattle.laws.specs.First.{first_of}
 use Rattle.laws.proofs.Every.{both_left, both_right, every_at}
@@ -35,7 +35,7 @@ module _ (words : List ℕ) where
         go (length (word_text words j) =ᵇ 0) (differ_stands (word_text words j) (word_text words n) rest d)
       where
         go : (b : Bool) → stands (word_text words j) (word_text words n ++ rest) ≡ false
-            → (if b then false else stands (word_text words j) (word_text words n ++ rest)) ≡ false
+            → (ifᵇ b then false else stands (word_text words j) (word_text words n ++ rest)) ≡ false
         go true e = refl
         go false e = e
 

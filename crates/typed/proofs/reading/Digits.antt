@@ -9,7 +9,7 @@ use lib.Dec.{ltb}
 use lib.ListN.{length, drop, get_or, drop_of_length-le}
 use lib.Seq.{drop-cons}
 use Rattle.laws.proofs.Never.{never}
-use Rattle.laws.specs.Choice.{if◌then◌else◌, ◌≤ᵇ◌}
+use Rattle.laws.specs.Choice.{ifᵇ◌then◌else◌, ◌≤ᵇ◌}
 use Rattle.typed.specs.Reading.{cap, in_number, digit_on, digits_read}
 
 module _ (value at : ℕ) (bytes : List ℕ) where
@@ -36,6 +36,6 @@ pub at_most_nine : (byte : ℕ) → in_number byte ≡ true → byte ≤ 57
 unfolding in_number
 at_most_nine byte e = leb-true byte 57 (go (ltb byte 46) (byte ≤ᵇ 57) e)
   where
-    go : (small holds : Bool) → (if small then false else holds) ≡ true → holds ≡ true
+    go : (small holds : Bool) → (ifᵇ small then false else holds) ≡ true → holds ≡ true
     go true holds e = never (cc)
     go false holds e = e

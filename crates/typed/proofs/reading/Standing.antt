@@ -9,7 +9,7 @@ use borrow.Author.Tests.{eq-eqb, ne_eqb, leb-true, leb-false}
 use lib.Dec.{eqb, leb}
 use lib.ListN.{length, drop, get_or, drop_of_length-le}
 use lib.Seq.{drop-cons}
-use Rattle.laws.specs.Choice.{if◌then◌else◌}
+use Rattle.laws.specs.Choice.{ifᵇ◌then◌else◌}
 use Rattle.laws.proofs.Never.{never}
 use Rattle.typed.specs.Reading.{stands}
 
@@ -20,7 +20,7 @@ too_short [] bytes h = absurd (omega arith)
 too_short (a ∷ text) [] h = refl
 too_short (a ∷ text) (b ∷ bytes) h = go (eqb a b) (too_short text bytes (omega arith))
   where
-    go : (t : Bool) → stands text bytes ≡ false → (if t then stands text bytes else false) ≡ false
+    go : (t : Bool) → stands text bytes ≡ false → (ifᵇ t then stands text bytes else false) ≡ false
     go true e = e
     go false e = refl
 

@@ -5,7 +5,7 @@ use Prim.Native.Nat.{ℕ, ◌<◌}
 use native.Mathlib.Omega.{arith}
 use borrow.Author.Tests.{ltb-true, leb-true, leb-false}
 use lib.Dec.{leb, ltb}
-use Rattle.laws.specs.Choice.{if◌then◌else◌}
+use Rattle.laws.specs.Choice.{ifᵇ◌then◌else◌}
 use Rattle.datum.specs.declared.CrossCurrent.{CrossCurrent}
 use Rattle.width.specs.Bands.{cross_entry, wave_entry}
 use Rattle.width.specs.declared.Water.{Water}
@@ -29,7 +29,7 @@ unfolding cross_entry
 cross_reads Open band cross = go (ltb cross.0 2) (leb cross.0 5) (leb cross.0 15) _ _ _ _
   where
     go : (t u v : Bool) (a b c d : ℕ)
-        → Reads ⊥ (if t then Tenths a else (if u then Tenths b else (if v then Tenths c else Tenths d)))
+        → Reads ⊥ (ifᵇ t then Tenths a else (ifᵇ u then Tenths b else (ifᵇ v then Tenths c else Tenths d)))
     go true u v a b c d = there _ (λ x. x)
     go false true v a b c d = there _ (λ x. x)
     go false false true a b c d = there _ (λ x. x)
@@ -37,7 +37,7 @@ cross_reads Open band cross = go (ltb cross.0 2) (leb cross.0 5) (leb cross.0 15
 cross_reads Sheltered band cross = go (ltb cross.0 2) (leb cross.0 5) (leb cross.0 15) _ _ _ refl refl refl
   where
     go : (t u v : Bool) (a b c : ℕ) → ltb cross.0 2 ≡ t → leb cross.0 5 ≡ u → leb cross.0 15 ≡ v
-        → Reads (15 < cross.0) (if t then Tenths a else (if u then Tenths b else (if v then Tenths c else Blank)))
+        → Reads (15 < cross.0) (ifᵇ t then Tenths a else (ifᵇ u then Tenths b else (ifᵇ v then Tenths c else Blank)))
     go true u v a b c p q r = there _ (λ over. omega (arith, ltb-true cross.0 2 p))
     go false true v a b c p q r = there _ (λ over. omega (arith, leb-true cross.0 5 q))
     go false false true a b c p q r = there _ (λ over. omega (arith, leb-true cross.0 15 r))
@@ -47,13 +47,13 @@ pub wave_reads : (water : Water) (band : SpeedBand) (wave : ℕ) → Reads (Past
 unfolding wave_entry
 wave_reads Open band wave = go (leb wave 100) (leb wave 300) _ _ _
   where
-    go : (t u : Bool) (a b c : ℕ) → Reads ⊥ (if t then Tenths a else (if u then Tenths b else Tenths c))
+    go : (t u : Bool) (a b c : ℕ) → Reads ⊥ (ifᵇ t then Tenths a else (ifᵇ u then Tenths b else Tenths c))
     go true u a b c = there _ (λ x. x)
     go false true a b c = there _ (λ x. x)
     go false false a b c = there _ (λ x. x)
 wave_reads Sheltered band wave = go (leb wave 100) (leb wave 300) _ refl
   where
-    go : (t u : Bool) (a : ℕ) → leb wave 100 ≡ t → Reads (100 < wave) (if t then Tenths a else (if u then Blank else Blank))
+    go : (t u : Bool) (a : ℕ) → leb wave 100 ≡ t → Reads (100 < wave) (ifᵇ t then Tenths a else (ifᵇ u then Blank else Blank))
     go true u a p = there _ (λ over. omega (arith, leb-true wave 100 p))
     go false true a p = missing (leb-false wave 100 p)
     go false false a p = missing (leb-false wave 100 p)

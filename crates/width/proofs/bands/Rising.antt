@@ -2,7 +2,7 @@
 use Prim.Native.Nat.{ℕ, ◌≤◌}
 use native.Mathlib.Nat.{le_refl, le_trans}
 use native.Mathlib.Omega.{arith}
-use Rattle.laws.specs.Choice.{if◌then◌else◌, ◌≤ᵇ◌, ◌<ᵇ◌}
+use Rattle.laws.specs.Choice.{ifᵇ◌then◌else◌, ◌≤ᵇ◌, ◌<ᵇ◌}
 use Rattle.laws.proofs.Rising.{Rises, last_band, next_band, under_falls, to_falls}
 use Rattle.width.specs.Bands.{cross_entry, along_item, wave_entry}
 use Rattle.width.specs.Additions.{wind_item}
@@ -34,7 +34,7 @@ ItemsRise = Rises ◌≤◌ le_refl (λ a b c p q. le_trans p q)
 
 -- three bands of plain items
 three_items : (low high start end : ℕ) → low ≤ high
-    → ItemsRise 0 (λ x. if x <ᵇ start then 0 else (if x ≤ᵇ end then low else high))
+    → ItemsRise 0 (λ x. ifᵇ x <ᵇ start then 0 else (ifᵇ x ≤ᵇ end then low else high))
 three_items low high start end h =
     next_band ◌≤◌ le_refl (λ a b c p q. le_trans p q) (λ x. x <ᵇ start) (under_falls start) 0 0 (omega arith) _
     (next_band ◌≤◌ le_refl (λ a b c p q. le_trans p q) (λ x. x ≤ᵇ end) (to_falls end) 0 low (omega arith) _
@@ -51,7 +51,7 @@ along_rises Moderate = three_items 1 2 15 30 (omega arith)
 along_rises Slow = three_items 2 4 15 30 (omega arith)
 
 cross_bands : (a b : ℕ) (last : Entry) → a ≤ b → Upto (Tenths b) last
-    → EntriesRise (Tenths 0) (λ x. if x <ᵇ 2 then Tenths 0 else (if x ≤ᵇ 5 then Tenths a else (if x ≤ᵇ 15 then Tenths b else last)))
+    → EntriesRise (Tenths 0) (λ x. ifᵇ x <ᵇ 2 then Tenths 0 else (ifᵇ x ≤ᵇ 5 then Tenths a else (ifᵇ x ≤ᵇ 15 then Tenths b else last)))
 cross_bands a b last p q =
     next_band Upto upto_same upto_trans (λ x. x <ᵇ 2) (under_falls 2) (Tenths 0) (Tenths 0) (tenths (omega arith)) _
     (next_band Upto upto_same upto_trans (λ x. x ≤ᵇ 5) (to_falls 5) (Tenths 0) (Tenths a) (tenths (omega arith)) _
@@ -66,7 +66,7 @@ cross_rises Sheltered Moderate = cross_bands 1 5 Blank (omega arith) blank
 cross_rises Sheltered Slow = cross_bands 2 8 Blank (omega arith) blank
 
 wave_bands : (mid last : Entry) → Upto (Tenths 0) mid → Upto mid last
-    → EntriesRise (Tenths 0) (λ x. if x ≤ᵇ 100 then Tenths 0 else (if x ≤ᵇ 300 then mid else last))
+    → EntriesRise (Tenths 0) (λ x. ifᵇ x ≤ᵇ 100 then Tenths 0 else (ifᵇ x ≤ᵇ 300 then mid else last))
 wave_bands mid last p q =
     next_band Upto upto_same upto_trans (λ x. x ≤ᵇ 100) (to_falls 100) (Tenths 0) (Tenths 0) (tenths (omega arith)) _
     (next_band Upto upto_same upto_trans (λ x. x ≤ᵇ 300) (to_falls 300) (Tenths 0) mid p _

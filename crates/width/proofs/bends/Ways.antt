@@ -6,7 +6,7 @@ use native.Mathlib.Nat.{mul-le-mul_right}
 use native.Mathlib.Omega.{arith}
 use borrow.Author.Tests.{eq-eqb, ne_eqb, lt-ltb, le-ltb}
 use lib.Dec.{ltb}
-use Rattle.laws.specs.Choice.{if◌then◌else◌}
+use Rattle.laws.specs.Choice.{ifᵇ◌then◌else◌}
 use Rattle.lanes.specs.declared.Lanes.{Lanes}
 use Rattle.width.specs.Bends.{least_lengths, widening_of, bend_of, LongEnough}
 use Rattle.width.specs.declared.Bend.TheVariants.{Widening, TooTight}
@@ -17,7 +17,7 @@ unfolding least_lengths
 lengths_within turn = go (ltb turn 25) (ltb turn 35) (ltb turn 55)
   where
     go : (a b c : Bool)
-        → (3 ≤ (if a then 3 else (if b then 5 else (if c then 8 else 10)))) × ((if a then 3 else (if b then 5 else (if c then 8 else 10))) ≤ 10)
+        → (3 ≤ (ifᵇ a then 3 else (ifᵇ b then 5 else (ifᵇ c then 8 else 10)))) × ((ifᵇ a then 3 else (ifᵇ b then 5 else (ifᵇ c then 8 else 10))) ≤ 10)
     go true b c = omega arith
     go false true c = omega arith
     go false false true = omega arith

@@ -3,7 +3,7 @@ use mathlib.Core.Path.{◌≡◌, ap, sym, ◌∙◌}
 use mathlib.Core.Bool.{true}
 use borrow.Author.Rules.{rules}
 use lib.ListN.{length}
-use Rattle.laws.specs.Choice.{if◌then◌else◌}
+use Rattle.laws.specs.Choice.{ifᵇ◌then◌else◌}
 use Rattle.texts.specs.Texts.{all_of}
 use Rattle.texts.specs.Typed.{all_from}
 use Rattle.channel.specs.Typing.{any_fault}
@@ -12,7 +12,7 @@ use Rattle.channel.proofs.typing.tell_faults.Statement.{statement}
 use Rattle.channel.proofs.typing.tell_faults.Tie as tie
 
 abbrev invariant_loop : tie.invariant-loop
-invariant_loop text now₀ told₀ now told = (if told then true else any_fault (all_from text now)) ≡ any_fault (all_of text)
+invariant_loop text now₀ told₀ now told = (ifᵇ told then true else any_fault (all_from text now)) ≡ any_fault (all_of text)
 
 abbrev decreases_loop : tie.decreases-loop
 decreases_loop text now₀ told₀ now told = length (all_from text now)
