@@ -1,0 +1,13 @@
+-- A fault was told, or is among what is left. The measure is what is left.
+use Rattle.std.specs.Prelude.{◌≡◌, true, length}
+use Rattle.laws.specs.Choice.{if◌then◌else◌}
+use Rattle.texts.specs.Texts.{all_of}
+use Rattle.texts.specs.Typed.{all_from}
+use Rattle.channel.specs.Typing.{any_fault}
+use Rattle.channel.proofs.typing.tell_faults.Given as goal
+
+abbrev pub invariant-loop : goal.invariant-loop
+invariant-loop l = (if l.told then true else any_fault (all_from l.text l.now)) ≡ any_fault (all_of l.text)
+
+abbrev pub decreases-loop : goal.decreases-loop
+decreases-loop l = length (all_from l.text l.now)
