@@ -7,10 +7,10 @@ use Rattle.channel.specs.Output.{with_lines}
 use Rattle.channel.specs.Typing.{lines_at, bytes_of_sheets}
 use Rattle.channel.proofs.typing.put_sheets.Given as goal
 
-abbrev pub invariant-loop : goal.invariant-loop
-invariant-loop l =
+abbrev pub invariant-loop-rt : goal.invariant-loop-rt
+invariant-loop-rt l =
     with_lines sheet_bytes (bytes_of_sheets (all_from l.text l.now)) (lines_at l.out l.buffer)
     ≡ with_lines sheet_bytes (bytes_of_sheets (all_of l.text)) (record { at = 0; buffer = l.initial.buffer })
 
-abbrev pub decreases-loop : goal.decreases-loop
-decreases-loop l = length (all_from l.text l.now)
+abbrev pub decreases-loop-rt : goal.decreases-loop-rt
+decreases-loop-rt l = length (all_from l.text l.now)

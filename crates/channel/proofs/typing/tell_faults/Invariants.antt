@@ -6,8 +6,8 @@ use Rattle.texts.specs.Typed.{all_from}
 use Rattle.channel.specs.Typing.{any_fault}
 use Rattle.channel.proofs.typing.tell_faults.Given as goal
 
-abbrev pub invariant-loop : goal.invariant-loop
-invariant-loop l = (if l.told then true else any_fault (all_from l.text l.now)) ≡ any_fault (all_of l.text)
+abbrev pub invariant-loop-rt : goal.invariant-loop-rt
+invariant-loop-rt l = (if l.told then true else any_fault (all_from l.text l.now)) ≡ any_fault (all_of l.text)
 
-abbrev pub decreases-loop : goal.decreases-loop
-decreases-loop l = length (all_from l.text l.now)
+abbrev pub decreases-loop-rt : goal.decreases-loop-rt
+decreases-loop-rt l = length (all_from l.text l.now)

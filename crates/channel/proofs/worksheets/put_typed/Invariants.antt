@@ -4,10 +4,10 @@ use Rattle.texts.specs.Typed.{all_from}
 use Rattle.channel.specs.Worksheets.{named_from, named_of, progress, all_put}
 use Rattle.channel.proofs.worksheets.put_typed.Given as goal
 
-abbrev pub invariant-loop : goal.invariant-loop
-invariant-loop l =
+abbrev pub invariant-loop-rt : goal.invariant-loop-rt
+invariant-loop-rt l =
     all_put l.pass l.steps (named_from l.text l.cursor (all_from l.text l.cursor)) (progress l.now l.buffer)
     ≡ all_put l.pass l.steps (named_of l.text) (progress l.initial.now l.initial.buffer)
 
-abbrev pub decreases-loop : goal.decreases-loop
-decreases-loop l = length (all_from l.text l.cursor)
+abbrev pub decreases-loop-rt : goal.decreases-loop-rt
+decreases-loop-rt l = length (all_from l.text l.cursor)
