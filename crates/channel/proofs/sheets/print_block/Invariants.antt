@@ -8,7 +8,7 @@ abbrev pub invariant-loop-from : goal.invariant-loop-from
 invariant-loop-from l = record {
   within : l.from ≤ length l.block;
   all : sheets_printed l.form l.level (sheets_of (drop l.from l.block)) (progress l.now l.buffer)
-      ≡ sheets_printed l.form l.level (sheets_of l.block) (progress l.initial.now l.initial.buffer)
+      ≡ sheets_printed l.form l.level (sheets_of l.block) (progress l.initial.now l.initial.buffer);
 }
 
 abbrev pub decreases-loop-from : goal.decreases-loop-from

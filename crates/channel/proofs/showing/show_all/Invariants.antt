@@ -8,7 +8,7 @@ use Rattle.channel.proofs.showing.show_all.Given as goal
 abbrev pub invariant-loop-more : goal.invariant-loop-more
 invariant-loop-more l = record {
   long : length l.space ≡ input_block;
-  read : Reading input_block (InputShown (at_first l.initial.buffer) (progress l.state l.buffer)) l.more l.whole
+  read : Reading input_block (InputShown (at_first l.initial.buffer) (progress l.state l.buffer)) l.more l.whole;
 }
 
 abbrev pub decreases-loop-more : goal.decreases-loop-more

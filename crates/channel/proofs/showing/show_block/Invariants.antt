@@ -7,7 +7,7 @@ use Rattle.channel.proofs.showing.show_block.Given as goal
 abbrev pub invariant-loop-from : goal.invariant-loop-from
 invariant-loop-from l = record {
   within : l.from ≤ length l.block;
-  all : sheets_shown (sheets_of (drop l.from l.block)) (progress l.now l.buffer) ≡ sheets_shown (sheets_of l.block) (progress l.initial.now l.initial.buffer)
+  all : sheets_shown (sheets_of (drop l.from l.block)) (progress l.now l.buffer) ≡ sheets_shown (sheets_of l.block) (progress l.initial.now l.initial.buffer);
 }
 
 abbrev pub decreases-loop-from : goal.decreases-loop-from

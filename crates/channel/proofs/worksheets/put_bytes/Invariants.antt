@@ -8,7 +8,7 @@ abbrev pub invariant-loop-from : goal.invariant-loop-from
 invariant-loop-from l = record {
   within : l.from ≤ length l.input;
   all : all_put l.pass l.steps (unnamed (sheets_of (drop l.from l.input))) (progress l.now l.buffer)
-      ≡ all_put l.pass l.steps (unnamed (sheets_of l.input)) (progress l.initial.now l.initial.buffer)
+      ≡ all_put l.pass l.steps (unnamed (sheets_of l.input)) (progress l.initial.now l.initial.buffer);
 }
 
 abbrev pub decreases-loop-from : goal.decreases-loop-from

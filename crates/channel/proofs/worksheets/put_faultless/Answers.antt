@@ -9,8 +9,8 @@ returns-in-Bytes c =
     let a = c.args in
     rw c.in-Bytes.is (accepted Bytes a.input.now a.buffer.now _ a.steps a.counts c.put_worksheets.result tt (rw c.in-Bytes.is at c.put_worksheets.ensures))
 
-pub returns-in-Typed : goal.returns-in-Typed
-returns-in-Typed c =
+pub returns-else-tell_faults : goal.returns-else-tell_faults
+returns-else-tell_faults c =
     let a = c.args in
-    rw c.in-Typed.is (accepted Typed a.input.now a.buffer.now _ a.steps a.counts c.put_worksheets.result
-        (accepted_text a.input.now (sym c.tell_faults.ensures ∙ c.if-tell_faults.false)) (rw c.in-Typed.is at c.put_worksheets.ensures))
+    rw c.in-Typed.is (accepted Typed a.input.now a.buffer.now _ a.steps a.counts c.put_worksheets-in-Typed.result
+    (accepted_text a.input.now (sym c.tell_faults.ensures ∙ c.if-tell_faults.false)) (rw c.in-Typed.is at c.put_worksheets-in-Typed.ensures))

@@ -2,4 +2,4 @@
 use Rattle.channel.proofs.worksheets.put_named.Goals as goal
 
 pub returns : goal.returns
-returns c = rw (← c.name_after-name.ensures.value, ← c.bytes_for-bytes.ensures) c.put_one.ensures
+returns c = rw (← c.name_after-name.ensures.0, ← c.bytes_for-bytes.ensures) c.put_one.ensures
