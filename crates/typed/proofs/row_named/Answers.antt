@@ -13,7 +13,6 @@ use Rattle.typed.proofs.row_named.Goals as goal
 pub returns-then-has_name : goal.returns-then-has_name
 unfolding row_named named
 returns-then-has_name c =
-    let at = c.before.before.before.before in
     let i = c.loop-i.i in
     let here = sym (rw c.row_at.ensures at c.has_name.ensures) ∙ c.if-has_name.true in
     let first : first_of (named c.args.line.now) 28 ≡ i + 1 =
