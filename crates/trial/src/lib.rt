@@ -1,5 +1,6 @@
 // The handles by which the tests call the rooms: numbers and slices, for a program in another language.
 #![tactic(auto)]
+
 mod depths;
 mod designs;
 mod gauges;

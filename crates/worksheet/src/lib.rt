@@ -1,5 +1,6 @@
 // The worksheet that is signed: a page a sheet, and the pages of the route (definition, section 15).
 #![tactic(auto)]
+
 ghost use Rattle.std.specs.Prelude.{◌≡◌};
 ghost use Rattle.lines.specs.Lines.{place_within, buffer_within};
 ghost use Rattle.worksheet.specs.Framing.{page_bytes};

@@ -1,5 +1,4 @@
 -- `worksheet::put_page` meets its contract: where a page fits, and where it does not.
-use borrow.Author.Rules.{rules}
 use Rattle.lines.proofs.putting.Fitting.{room, unfit, fitting}
 use Rattle.worksheet.specs.Framing.{page_bytes}
 use Rattle.worksheet.proofs.put_page.Goals as goal

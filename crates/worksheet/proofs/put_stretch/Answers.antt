@@ -1,6 +1,5 @@
 -- `worksheet::put_stretch` meets its contract: where a page fits, and where it does not.
 use native.Mathlib.Omega.{arith}
-use borrow.Author.Rules.{rules}
 use lib.ListN.{length}
 use Rattle.lines.proofs.putting.Fitting.{room, unfit, fitting}
 use Rattle.worksheet.specs.Framing.{page_bytes}

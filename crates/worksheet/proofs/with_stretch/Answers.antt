@@ -1,5 +1,4 @@
 -- `worksheet::with_stretch` meets its contract: by the answer.
-use borrow.Author.Rules.{rules}
 use Rattle.worksheet.proofs.with_stretch.Goals as goal
 
 pub returns-in-Answered : goal.returns-in-Answered

@@ -2,7 +2,6 @@
 use mathlib.Core.Path.{◌≡◌}
 use Prim.Native.Nat.{◌≤◌, ◌-◌}
 use lib.ListN.{length}
-use borrow.Author.Rules.{rules}
 use Rattle.design.specs.Numbers.{number_count}
 use Rattle.trial.proofs.designs.trial_design.Given as goal
 

@@ -1,6 +1,5 @@
 -- `trial::sheets::array_of` meets its contract: the place of each turn is within both.
 use Prim.Native.Nat.{◌≤◌, ◌-◌}
-use borrow.Author.Rules.{rules}
 use Rattle.sheet.specs.Fields.{count}
 use Rattle.trial.proofs.sheets.array_of.Given as goal
 

@@ -1,6 +1,5 @@
 -- `worksheet::bends::put_bend` meets its contract: straight where nothing turns, and else what the bend asks for.
 use native.Mathlib.Omega.{arith}
-use borrow.Author.Rules.{rules}
 use borrow.Author.Tests.{eq-eqb, ne_eqb}
 use Rattle.worksheet.specs.Bends.{bend_part}
 use Rattle.worksheet.proofs.bends.put_bend.Goals as goal

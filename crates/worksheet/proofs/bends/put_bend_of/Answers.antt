@@ -1,6 +1,5 @@
 -- `worksheet::bends::put_bend_of` meets its contract: the text of each kind of bend, its figures filled in.
 use native.Mathlib.Omega.{arith}
-use borrow.Author.Rules.{rules}
 use Rattle.worksheet.proofs.bends.put_bend_of.Goals as goal
 
 pub returns-in-Widening : goal.returns-in-Widening

@@ -1,5 +1,4 @@
 -- `worksheet::classes::class_figures` meets its contract: four figures, of which the limits are found.
-use borrow.Author.Rules.{rules}
 use Rattle.worksheet.proofs.classes.class_figures.Goals as goal
 
 pub returns : goal.returns

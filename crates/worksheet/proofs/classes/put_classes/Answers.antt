@@ -1,6 +1,5 @@
 -- `worksheet::classes::put_classes` meets its contract: the three lines, one behind another.
 use native.Mathlib.Omega.{arith}
-use borrow.Author.Rules.{rules}
 use mir.Facts.{to_z-of_z}
 use mir.Syntax.{w32}
 use mir.Val.{SFits}

@@ -1,6 +1,5 @@
 -- `worksheet::depths::put_cut` meets its contract: the three depths where there is a cut, and else nothing.
 use native.Mathlib.Omega.{arith}
-use borrow.Author.Rules.{rules}
 use mir.Facts.{to_z-of_z}
 use mir.Syntax.{w32}
 use mir.Val.{SFits}

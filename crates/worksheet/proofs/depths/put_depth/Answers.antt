@@ -1,6 +1,5 @@
 -- `worksheet::depths::put_depth` meets its contract: the head, the tries and the cut, one behind another.
 use native.Mathlib.Omega.{arith}
-use borrow.Author.Rules.{rules}
 use Rattle.lines.proofs.putting.Placing.{put_on}
 use Rattle.worksheet.specs.Depths.{depth_part}
 use Rattle.worksheet.proofs.Tries.{three_at_most}

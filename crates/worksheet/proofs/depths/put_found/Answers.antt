@@ -1,6 +1,5 @@
 -- `worksheet::depths::put_found` meets its contract: each arm puts the line of its finding.
 use native.Mathlib.Omega.{arith}
-use borrow.Author.Rules.{rules}
 use Rattle.lines.proofs.putting.Placing.{put_on}
 use Rattle.worksheet.proofs.depths.put_found.Goals as goal
 

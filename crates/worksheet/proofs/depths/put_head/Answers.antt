@@ -1,6 +1,5 @@
 -- `worksheet::depths::put_head` meets its contract: the allowances fill the head.
 use native.Mathlib.Omega.{arith}
-use borrow.Author.Rules.{rules}
 use Rattle.worksheet.specs.Depths.{depth_head}
 use Rattle.worksheet.proofs.depths.put_head.Goals as goal
 

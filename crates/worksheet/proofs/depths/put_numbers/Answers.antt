@@ -1,6 +1,5 @@
 -- `worksheet::depths::put_numbers` meets its contract: the two halves of the line, one behind the other.
 use native.Mathlib.Omega.{arith}
-use borrow.Author.Rules.{rules}
 use Rattle.lines.proofs.putting.Placing.{put_on}
 use Rattle.worksheet.specs.Depths.{try_numbers}
 use Rattle.worksheet.proofs.depths.put_numbers.Goals as goal

@@ -1,6 +1,5 @@
 -- `worksheet::depths::put_silt` meets its contract: by whether the silt has an end.
 use native.Mathlib.Omega.{arith}
-use borrow.Author.Rules.{rules}
 use borrow.Author.Tests.{lt-ltb, le-ltb}
 use Rattle.lines.proofs.putting.Placing.{put_on}
 use Rattle.worksheet.specs.Depths.{silt_line}

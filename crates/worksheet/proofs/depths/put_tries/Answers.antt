@@ -1,10 +1,8 @@
 -- `worksheet::depths::put_tries` meets its contract. The loop's invariant: the lines of the tries passed stand. The measure is the tries that are left.
-use Prim.Native.Nat.{◌+◌, ◌*◌, ◌-◌, ◌≤◌}
 use mathlib.Core.Path.{◌≡◌, refl}
 use native.Mathlib.Omega.{arith}
-use borrow.Author.Rules.{rules}
-use lib.ListN.{length, length-map}
-use Rattle.worksheet.proofs.Tries.{Tried, none_tried, one_tried, all_tried}
+use lib.ListN.{length}
+use Rattle.worksheet.proofs.Tries.{none_tried, one_tried, all_tried}
 use Rattle.worksheet.proofs.depths.put_tries.Goals as goal
 
 pub loop-i-init : goal.loop-i-init

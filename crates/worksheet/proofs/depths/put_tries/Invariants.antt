@@ -1,10 +1,8 @@
 -- `worksheet::depths::put_tries` meets its contract. The loop's invariant: the lines of the tries passed stand. The measure is the tries that are left.
 use Prim.Native.Nat.{◌+◌, ◌*◌, ◌-◌, ◌≤◌}
-use mathlib.Core.Path.{◌≡◌, refl}
-use native.Mathlib.Omega.{arith}
-use borrow.Author.Rules.{rules}
-use lib.ListN.{length, length-map}
-use Rattle.worksheet.proofs.Tries.{Tried, none_tried, one_tried, all_tried}
+use mathlib.Core.Path.{◌≡◌}
+use lib.ListN.{length}
+use Rattle.worksheet.proofs.Tries.{Tried}
 use Rattle.worksheet.proofs.depths.put_tries.Given as goal
 
 abbrev pub invariant-loop-i : goal.invariant-loop-i

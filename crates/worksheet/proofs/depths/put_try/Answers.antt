@@ -1,5 +1,4 @@
 -- `worksheet::depths::put_try` meets its contract: the line is that of what the try comes to.
-use borrow.Author.Rules.{rules}
 use Rattle.worksheet.specs.Depths.{try_line}
 use Rattle.worksheet.proofs.depths.put_try.Goals as goal
 

@@ -2,7 +2,6 @@
 use mathlib.Core.Path.{ap}
 use native.Mathlib.Omega.{arith}
 use mir.Syntax.{w32}
-use borrow.Author.Rules.{rules}
 use Rattle.blanks.specs.declared.Figure.TheVariants.{Signed}
 use Rattle.datum.proofs.Signs.{level_fits, level_back}
 use Rattle.worksheet.proofs.filling.level_figure.Goals as goal

@@ -1,6 +1,5 @@
 -- `worksheet::filling::put_bytes` meets its contract: the bytes fit.
 use native.Mathlib.Omega.{arith}
-use borrow.Author.Rules.{rules}
 use Rattle.lines.proofs.Promises.{bytes_put}
 use Rattle.worksheet.proofs.filling.put_bytes.Goals as goal
 

@@ -1,6 +1,5 @@
 -- `worksheet::filling::put_line` meets its contract: the line fits.
 use native.Mathlib.Omega.{arith}
-use borrow.Author.Rules.{rules}
 use Rattle.lines.proofs.putting.Fitting.{put_within}
 use Rattle.typed.proofs.Promises.{line_fits_room}
 use Rattle.typed.specs.Lines.{line_bytes, line_text}

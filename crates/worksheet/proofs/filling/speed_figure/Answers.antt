@@ -1,5 +1,4 @@
 -- `worksheet::filling::speed_figure` meets its contract: the parts of a speed, or none.
-use borrow.Author.Rules.{rules}
 use Rattle.worksheet.proofs.filling.speed_figure.Goals as goal
 
 pub returns-in-Parts : goal.returns-in-Parts

@@ -1,5 +1,4 @@
 -- `worksheet::framing::hex_digit` meets its contract: each way out is a case of `hex_digit`.
-use borrow.Author.Rules.{rules}
 use borrow.Author.Tests.{lt-ltb, le-ltb}
 use Rattle.worksheet.specs.Framing.{hex_digit}
 use Rattle.worksheet.proofs.framing.hex_digit.Goals as goal

@@ -1,7 +1,6 @@
 -- `worksheet::framing::name_end` meets its contract: the whole name, or as much of it as is shown.
 use mathlib.Core.Path.{refl}
 use native.Mathlib.Omega.{arith}
-use borrow.Author.Rules.{rules}
 use borrow.Author.Tests.{le-leb, lt-leb}
 use Rattle.worksheet.specs.Framing.{name_end}
 use Rattle.worksheet.proofs.framing.name_end.Goals as goal

@@ -1,6 +1,5 @@
 -- `worksheet::framing::put_byte` meets its contract: its two digits are put.
 use native.Mathlib.Omega.{arith}
-use borrow.Author.Rules.{rules}
 use Rattle.worksheet.specs.Framing.{hex_byte}
 use Rattle.worksheet.proofs.framing.put_byte.Goals as goal
 

@@ -1,6 +1,5 @@
 -- `worksheet::framing::put_end` meets its contract: the line to sign, the bytes and a form feed, one behind another.
 use native.Mathlib.Omega.{arith}
-use borrow.Author.Rules.{rules}
 use Rattle.lines.proofs.putting.Placing.{put_on}
 use Rattle.worksheet.specs.Framing.{end_text}
 use Rattle.worksheet.proofs.framing.put_end.Goals as goal

@@ -1,6 +1,5 @@
 -- `worksheet::framing::put_head` meets its contract: the title, the name and an empty line, one behind another.
 use native.Mathlib.Omega.{arith}
-use borrow.Author.Rules.{rules}
 use Rattle.lines.proofs.putting.Placing.{put_on}
 use Rattle.worksheet.specs.Framing.{head_text}
 use Rattle.worksheet.proofs.framing.put_head.Goals as goal

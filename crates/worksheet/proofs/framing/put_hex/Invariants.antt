@@ -1,11 +1,9 @@
 -- `worksheet::framing::put_hex` meets its contract. The loop's invariant: the digits of the bytes passed stand. The measure is the bytes that are left.
 use Prim.Native.Nat.{◌+◌, ◌*◌, ◌-◌, ◌≤◌}
-use mathlib.Core.Path.{◌≡◌, refl}
-use native.Mathlib.Omega.{arith}
+use mathlib.Core.Path.{◌≡◌}
 use lib.ListN.{length, take}
 use Rattle.lines.specs.Lines.{Put}
 use Rattle.worksheet.specs.Framing.{hex_text}
-use Rattle.worksheet.proofs.framing.Hex.{no_digits, one_more}
 use Rattle.worksheet.proofs.framing.put_hex.Given as goal
 
 abbrev pub invariant-loop-i : goal.invariant-loop-i

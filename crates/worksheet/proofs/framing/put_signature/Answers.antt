@@ -1,6 +1,5 @@
 -- `worksheet::framing::put_signature` meets its contract: the line fits.
 use native.Mathlib.Omega.{arith}
-use borrow.Author.Rules.{rules}
 use Rattle.worksheet.specs.Framing.{signature_text}
 use Rattle.worksheet.proofs.framing.put_signature.Goals as goal
 

@@ -1,7 +1,6 @@
 -- `worksheet::framing::put_visible` meets its contract: the bytes fit.
 use mathlib.Core.List.{map}
 use native.Mathlib.Omega.{arith}
-use borrow.Author.Rules.{rules}
 use lib.ListN.{length, length-map}
 use Rattle.texts.specs.Messages.{shown}
 use Rattle.lines.proofs.putting.Fitting.{put_within}

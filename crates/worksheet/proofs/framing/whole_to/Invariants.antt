@@ -1,11 +1,7 @@
 -- `worksheet::framing::whole_to` meets its contract. The loop's invariant: the answer is that of the place it stands at. The measure is that place.
 use Prim.Native.Nat.{◌≤◌}
-use mathlib.Core.Path.{◌≡◌, refl, sym, ◌∙◌}
-use native.Mathlib.Omega.{arith}
-use borrow.Author.Tests.{not-true, not-false}
-use borrow.Author.Rules.{rules}
+use mathlib.Core.Path.{◌≡◌}
 use Rattle.worksheet.specs.Framing.{whole_to}
-use Rattle.worksheet.proofs.framing.Names.{whole_here, whole_before, whole_first}
 use Rattle.worksheet.proofs.framing.whole_to.Given as goal
 
 abbrev pub invariant-loop-end : goal.invariant-loop-end

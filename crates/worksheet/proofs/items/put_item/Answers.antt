@@ -1,8 +1,5 @@
 -- `worksheet::items::put_item` meets its contract: its first bytes, then its words and figures; the product of the figures fits 64 bits.
-use Prim.Native.Nat.{◌*◌, ◌≤◌}
-use native.Mathlib.Nat.{mul-le-mul}
 use native.Mathlib.Omega.{arith}
-use borrow.Author.Rules.{rules}
 use Rattle.lines.proofs.putting.Placing.{put_on}
 use Rattle.worksheet.specs.Items.{item_line}
 use Rattle.worksheet.proofs.items.put_item.Goals as goal

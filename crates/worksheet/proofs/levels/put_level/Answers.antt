@@ -1,6 +1,5 @@
 -- `worksheet::levels::put_level` meets its contract: by where the level comes from.
 use native.Mathlib.Omega.{arith}
-use borrow.Author.Rules.{rules}
 use Rattle.worksheet.proofs.levels.put_level.Goals as goal
 
 pub returns-in-Given : goal.returns-in-Given

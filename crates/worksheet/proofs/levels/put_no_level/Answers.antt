@@ -1,6 +1,5 @@
 -- `worksheet::levels::put_no_level` meets its contract: each arm puts the text of its fault.
 use native.Mathlib.Omega.{arith}
-use borrow.Author.Rules.{rules}
 use Rattle.worksheet.proofs.levels.put_no_level.Goals as goal
 
 pub returns-in-WrongTable : goal.returns-in-WrongTable

@@ -1,6 +1,5 @@
 -- `worksheet::levels::put_record` meets its contract: the head and then the steps.
 use native.Mathlib.Omega.{arith}
-use borrow.Author.Rules.{rules}
 use Rattle.lines.proofs.putting.Placing.{put_on}
 use Rattle.worksheet.specs.Levels.{record_part}
 use Rattle.worksheet.proofs.levels.put_record.Goals as goal

@@ -1,6 +1,5 @@
 -- `worksheet::levels::put_steps` meets its contract: the steps to a level where there is one, and else how far it is read.
 use native.Mathlib.Omega.{arith}
-use borrow.Author.Rules.{rules}
 use Rattle.worksheet.proofs.levels.put_steps.Goals as goal
 
 pub returns-in-Found : goal.returns-in-Found

@@ -1,6 +1,5 @@
 -- `worksheet::pages::level_at` meets its contract: the level that is found.
 use mathlib.Core.Path.{ap, sym, ◌∙◌}
-use borrow.Author.Rules.{rules}
 use Rattle.worksheet.specs.Pages.{found_level}
 use Rattle.worksheet.proofs.pages.level_at.Goals as goal
 

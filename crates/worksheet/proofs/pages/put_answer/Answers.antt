@@ -1,6 +1,5 @@
 -- `worksheet::pages::put_answer` meets its contract: by the answer.
 use native.Mathlib.Omega.{arith}
-use borrow.Author.Rules.{rules}
 use Rattle.worksheet.proofs.pages.put_answer.Goals as goal
 
 pub returns-in-Answered : goal.returns-in-Answered

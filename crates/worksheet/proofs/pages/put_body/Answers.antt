@@ -1,6 +1,5 @@
 -- `worksheet::pages::put_body` meets its contract: by what the bytes are read as.
 use native.Mathlib.Omega.{arith}
-use borrow.Author.Rules.{rules}
 use Rattle.worksheet.proofs.pages.put_body.Goals as goal
 
 pub returns-in-Good : goal.returns-in-Good

@@ -1,6 +1,5 @@
 -- `worksheet::pages::put_front` meets its contract: the two parts, one behind the other.
 use native.Mathlib.Omega.{arith}
-use borrow.Author.Rules.{rules}
 use Rattle.lines.proofs.putting.Placing.{put_on}
 use Rattle.worksheet.specs.Pages.{front_text}
 use Rattle.worksheet.proofs.pages.put_front.Goals as goal

@@ -1,6 +1,5 @@
 -- `worksheet::pages::put_no_level` meets its contract: the level, and then the refusal.
 use native.Mathlib.Omega.{arith}
-use borrow.Author.Rules.{rules}
 use Rattle.lines.proofs.putting.Placing.{put_on}
 use Rattle.worksheet.specs.Pages.{no_level_parts}
 use Rattle.worksheet.proofs.pages.put_no_level.Goals as goal

@@ -1,6 +1,5 @@
 -- `worksheet::pages::put_no_speed` meets its contract: its parts, one behind another.
 use native.Mathlib.Omega.{arith}
-use borrow.Author.Rules.{rules}
 use Rattle.lines.proofs.putting.Placing.{put_on}
 use Rattle.worksheet.specs.Pages.{no_speed_parts}
 use Rattle.worksheet.proofs.pages.put_no_speed.Goals as goal

@@ -1,6 +1,5 @@
 -- `worksheet::pages::put_refused` meets its contract: by the reason.
 use native.Mathlib.Omega.{arith}
-use borrow.Author.Rules.{rules}
 use Rattle.lines.proofs.putting.Placing.{put_none}
 use Rattle.worksheet.proofs.pages.put_refused.Goals as goal
 

@@ -1,6 +1,5 @@
 -- `worksheet::pages::put_sheet` meets its contract: its rows, and then its parts.
 use native.Mathlib.Omega.{arith}
-use borrow.Author.Rules.{rules}
 use Rattle.lines.proofs.putting.Placing.{put_on}
 use Rattle.worksheet.specs.Pages.{sheet_parts}
 use Rattle.worksheet.proofs.pages.put_sheet.Goals as goal

@@ -1,6 +1,5 @@
 -- `worksheet::pages::put_sized` meets its contract: the three parts, one behind another.
 use native.Mathlib.Omega.{arith}
-use borrow.Author.Rules.{rules}
 use Rattle.lines.proofs.putting.Placing.{put_on}
 use Rattle.worksheet.specs.Pages.{sized_text}
 use Rattle.worksheet.proofs.pages.put_sized.Goals as goal

@@ -1,6 +1,5 @@
 -- `worksheet::pages::put_sized_by` meets its contract: by what was found.
 use native.Mathlib.Omega.{arith}
-use borrow.Author.Rules.{rules}
 use Rattle.lines.proofs.putting.Placing.{put_none}
 use Rattle.worksheet.proofs.pages.put_sized_by.Goals as goal
 

@@ -1,6 +1,5 @@
 -- `worksheet::pages::put_sizes` meets its contract: the depth, and then what is sized by it.
 use native.Mathlib.Omega.{arith}
-use borrow.Author.Rules.{rules}
 use Rattle.lines.proofs.putting.Placing.{put_on}
 use Rattle.worksheet.specs.Pages.{sizes_text}
 use Rattle.worksheet.proofs.pages.put_sizes.Goals as goal

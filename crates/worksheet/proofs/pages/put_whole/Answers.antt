@@ -1,6 +1,5 @@
 -- `worksheet::pages::put_whole` meets its contract: the head, the body and the end, one behind another.
 use native.Mathlib.Omega.{arith}
-use borrow.Author.Rules.{rules}
 use Rattle.lines.proofs.putting.Placing.{put_on}
 use Rattle.worksheet.specs.Pages.{page_text}
 use Rattle.worksheet.proofs.pages.put_whole.Goals as goal

@@ -1,5 +1,4 @@
 -- `worksheet::pages::section_by` meets its contract: by what was found.
-use borrow.Author.Rules.{rules}
 use Rattle.worksheet.proofs.pages.section_by.Goals as goal
 
 pub returns-in-NoEntry : goal.returns-in-NoEntry

@@ -1,5 +1,4 @@
 -- `worksheet::pages::section_for` meets its contract: the section at the width that the entries give.
-use borrow.Author.Rules.{rules}
 use Rattle.worksheet.proofs.pages.section_for.Goals as goal
 
 pub returns : goal.returns

@@ -1,6 +1,5 @@
 -- `worksheet::refusals::last_of` meets its contract: by the count of its tries.
 use borrow.Author.Tests.{le-leb, lt-leb, eq-eqb, ne_eqb}
-use borrow.Author.Rules.{rules}
 use Rattle.worksheet.specs.Refusals.{last_of}
 use Rattle.worksheet.proofs.refusals.last_of.Goals as goal
 

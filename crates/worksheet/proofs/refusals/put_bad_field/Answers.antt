@@ -1,6 +1,5 @@
 -- `worksheet::refusals::put_bad_field` meets its contract: the number, the range and the note, one behind another.
 use native.Mathlib.Omega.{arith}
-use borrow.Author.Rules.{rules}
 use Rattle.lines.proofs.putting.Placing.{put_on}
 use Rattle.worksheet.specs.Refusals.{bad_field}
 use Rattle.worksheet.proofs.refusals.put_bad_field.Goals as goal

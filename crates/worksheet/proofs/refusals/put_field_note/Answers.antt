@@ -1,7 +1,6 @@
 -- `worksheet::refusals::put_field_note` meets its contract: by the field.
 use native.Mathlib.Omega.{arith}
 use borrow.Author.Tests.{eq-eqb, ne_eqb}
-use borrow.Author.Rules.{rules}
 use Rattle.lines.proofs.putting.Placing.{put_none}
 use Rattle.worksheet.specs.Refusals.{field_note}
 use Rattle.worksheet.proofs.refusals.put_field_note.Goals as goal

@@ -1,6 +1,5 @@
 -- `worksheet::refusals::put_may_hold` meets its contract: the line of the least figure and that of the greatest.
 use native.Mathlib.Omega.{arith}
-use borrow.Author.Rules.{rules}
 use Rattle.lines.proofs.putting.Placing.{put_on}
 use Rattle.worksheet.specs.Refusals.{may_hold}
 use Rattle.worksheet.proofs.refusals.put_may_hold.Goals as goal

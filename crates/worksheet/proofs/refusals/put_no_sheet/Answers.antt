@@ -1,6 +1,5 @@
 -- `worksheet::refusals::put_no_sheet` meets its contract: each arm puts the text of its fault.
 use native.Mathlib.Omega.{arith}
-use borrow.Author.Rules.{rules}
 use Rattle.worksheet.proofs.refusals.put_no_sheet.Goals as goal
 
 pub returns-in-WrongLength : goal.returns-in-WrongLength

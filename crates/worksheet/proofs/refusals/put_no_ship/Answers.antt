@@ -1,6 +1,5 @@
 -- `worksheet::refusals::put_no_ship` meets its contract: its figures are the length and three beams.
 use native.Mathlib.Omega.{arith}
-use borrow.Author.Rules.{rules}
 use Rattle.worksheet.specs.Refusals.{no_ship_text}
 use Rattle.worksheet.proofs.refusals.put_no_ship.Goals as goal
 

@@ -1,7 +1,6 @@
 -- `worksheet::refusals::put_silt` meets its contract: by whether the silt has an end.
 use native.Mathlib.Omega.{arith}
 use borrow.Author.Tests.{lt-ltb, le-ltb}
-use borrow.Author.Rules.{rules}
 use Rattle.worksheet.specs.Refusals.{silt_text}
 use Rattle.worksheet.proofs.refusals.put_silt.Goals as goal
 

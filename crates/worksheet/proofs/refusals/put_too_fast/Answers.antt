@@ -1,6 +1,5 @@
 -- `worksheet::refusals::put_too_fast` meets its contract: the hundredths, or nothing.
 use native.Mathlib.Omega.{arith}
-use borrow.Author.Rules.{rules}
 use Rattle.lines.proofs.putting.Placing.{put_none}
 use Rattle.worksheet.proofs.refusals.put_too_fast.Goals as goal
 

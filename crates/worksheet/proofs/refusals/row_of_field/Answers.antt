@@ -1,7 +1,6 @@
 -- `worksheet::refusals::row_of_field` meets its contract: each way out is a case of `row_of_field`.
 use native.Mathlib.Omega.{arith}
 use borrow.Author.Tests.{le-leb, lt-leb}
-use borrow.Author.Rules.{rules}
 use Rattle.worksheet.specs.Refusals.{row_of_field}
 use Rattle.worksheet.proofs.refusals.row_of_field.Goals as goal
 

@@ -3,7 +3,6 @@ use Prim.Native.Nat.{◌-◌}
 use mathlib.Core.Path.{◌≡◌, ap, ◌∙◌}
 use native.Mathlib.Omega.{arith}
 use borrow.Author.Tests.{eq-eqb, ne_eqb}
-use borrow.Author.Rules.{rules}
 use Rattle.sheet.specs.Fields.{range_of}
 use Rattle.worksheet.specs.Refusals.{values_of_field}
 use Rattle.worksheet.proofs.refusals.values_of_field.Goals as goal

@@ -1,6 +1,5 @@
 -- `worksheet::routes::greater` meets its contract: the greater cut and the greater width.
 use borrow.Author.Tests.{lt-ltb, le-ltb}
-use borrow.Author.Rules.{rules}
 use mir.Val.{SFits}
 use mir.Facts.{to_z-of_z}
 use mir.Syntax.{w32}

@@ -1,6 +1,5 @@
 -- `worksheet::routes::put_answered` meets its contract: the figures of the stretch, in two texts.
 use native.Mathlib.Omega.{arith}
-use borrow.Author.Rules.{rules}
 use mir.Val.{SFits}
 use mir.Facts.{to_z-of_z}
 use mir.Syntax.{w32}

@@ -1,6 +1,5 @@
 -- `worksheet::routes::put_by` meets its contract: each arm puts the line of its answer.
 use native.Mathlib.Omega.{arith}
-use borrow.Author.Rules.{rules}
 use Rattle.worksheet.proofs.routes.put_by.Goals as goal
 
 pub returns-in-Refused : goal.returns-in-Refused

@@ -1,6 +1,5 @@
 -- `worksheet::routes::put_foot` meets its contract: three texts and the line to sign, one behind another.
 use native.Mathlib.Omega.{arith}
-use borrow.Author.Rules.{rules}
 use Rattle.lines.proofs.putting.Placing.{put_on}
 use Rattle.worksheet.specs.Routes.{foot_text}
 use Rattle.worksheet.proofs.routes.put_foot.Goals as goal

@@ -1,6 +1,5 @@
 -- `worksheet::routes::put_head` meets its contract: its figure is the page.
 use native.Mathlib.Omega.{arith}
-use borrow.Author.Rules.{rules}
 use Rattle.worksheet.specs.Routes.{route_head}
 use Rattle.worksheet.proofs.routes.put_head.Goals as goal
 

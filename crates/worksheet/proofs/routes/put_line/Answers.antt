@@ -1,6 +1,5 @@
 -- `worksheet::routes::put_line` meets its contract: the head of a new page, and the line.
 use native.Mathlib.Omega.{arith}
-use borrow.Author.Rules.{rules}
 use Rattle.lines.proofs.putting.Placing.{put_on}
 use Rattle.worksheet.specs.Routes.{stretch_text}
 use Rattle.worksheet.proofs.routes.put_line.Goals as goal

@@ -1,6 +1,5 @@
 -- `worksheet::routes::put_new_page` meets its contract: nothing, or a form feed and the head.
 use native.Mathlib.Omega.{arith}
-use borrow.Author.Rules.{rules}
 use borrow.Author.Tests.{lt-ltb, le-ltb, eq-eqb, ne_eqb}
 use Rattle.lines.proofs.putting.Placing.{put_none, put_on}
 use Rattle.worksheet.specs.Routes.{new_page}

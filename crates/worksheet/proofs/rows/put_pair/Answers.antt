@@ -2,7 +2,6 @@
 use mathlib.Core.Path.{◌≡◌}
 use Prim.Native.Nat.{ℕ, ◌-◌}
 use native.Mathlib.Omega.{arith}
-use borrow.Author.Rules.{rules}
 use lib.ListN.{length, replicate, length-take}
 use Rattle.lines.proofs.putting.Placing.{put_on}
 use Rattle.worksheet.proofs.Pairing.{so_many}

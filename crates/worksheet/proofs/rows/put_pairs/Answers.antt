@@ -1,12 +1,10 @@
 -- `worksheet::rows::put_pairs` meets its contract. The loop's invariant: the lines passed stand. The measure is the lines that are left.
-use Prim.Native.Nat.{◌+◌, ◌*◌, ◌-◌, ◌≤◌}
-use mathlib.Core.Path.{◌≡◌, refl}
+use mathlib.Core.Path.{refl}
 use mathlib.Core.List.{[]}
 use native.Mathlib.Omega.{arith}
-use lib.ListN.{length}
 use Rattle.lines.proofs.putting.Placing.{put_none}
 use Rattle.worksheet.specs.Rows.{pairs_text}
-use Rattle.worksheet.proofs.Pairing.{Lined, one_lined, all_lined}
+use Rattle.worksheet.proofs.Pairing.{one_lined, all_lined}
 use Rattle.worksheet.proofs.rows.put_pairs.Goals as goal
 
 pub loop-i-init : goal.loop-i-init

@@ -1,12 +1,9 @@
 -- `worksheet::rows::put_pairs` meets its contract. The loop's invariant: the lines passed stand. The measure is the lines that are left.
 use Prim.Native.Nat.{◌+◌, ◌*◌, ◌-◌, ◌≤◌}
-use mathlib.Core.Path.{◌≡◌, refl}
-use mathlib.Core.List.{[]}
-use native.Mathlib.Omega.{arith}
+use mathlib.Core.Path.{◌≡◌}
 use lib.ListN.{length}
-use Rattle.lines.proofs.putting.Placing.{put_none}
 use Rattle.worksheet.specs.Rows.{pairs_text}
-use Rattle.worksheet.proofs.Pairing.{Lined, one_lined, all_lined}
+use Rattle.worksheet.proofs.Pairing.{Lined}
 use Rattle.worksheet.proofs.rows.put_pairs.Given as goal
 
 abbrev pub invariant-loop-i : goal.invariant-loop-i

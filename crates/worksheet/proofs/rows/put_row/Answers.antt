@@ -1,5 +1,4 @@
 -- `worksheet::rows::put_row` meets its contract: the line of the row's figure.
-use borrow.Author.Rules.{rules}
 use Rattle.worksheet.specs.Rows.{row_text}
 use Rattle.worksheet.proofs.rows.put_row.Goals as goal
 

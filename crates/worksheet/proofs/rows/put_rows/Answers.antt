@@ -1,6 +1,5 @@
 -- `worksheet::rows::put_rows` meets its contract: the pairs, and then an empty line.
 use native.Mathlib.Omega.{arith}
-use borrow.Author.Rules.{rules}
 use Rattle.lines.proofs.putting.Placing.{put_on}
 use Rattle.worksheet.specs.Rows.{rows_part}
 use Rattle.worksheet.proofs.rows.put_rows.Goals as goal

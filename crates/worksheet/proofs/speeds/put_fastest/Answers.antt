@@ -1,6 +1,5 @@
 -- `worksheet::speeds::put_fastest` meets its contract: nine tenths of a speed where there is one, and else nothing.
 use native.Mathlib.Omega.{arith}
-use borrow.Author.Rules.{rules}
 use Rattle.lines.proofs.putting.Placing.{put_none}
 use Rattle.worksheet.proofs.speeds.put_fastest.Goals as goal
 

@@ -1,6 +1,5 @@
 -- `worksheet::speeds::put_parts` meets its contract: the parts fill the two lines.
 use native.Mathlib.Omega.{arith}
-use borrow.Author.Rules.{rules}
 use Rattle.worksheet.specs.Speeds.{parts_text}
 use Rattle.worksheet.proofs.speeds.put_parts.Goals as goal
 

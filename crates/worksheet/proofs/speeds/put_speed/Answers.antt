@@ -1,6 +1,5 @@
 -- `worksheet::speeds::put_speed` meets its contract: nothing for a slope of 0, and else the parts and then nine tenths.
 use native.Mathlib.Omega.{arith}
-use borrow.Author.Rules.{rules}
 use borrow.Author.Tests.{eq-eqb, ne_eqb}
 use Rattle.lines.proofs.putting.Placing.{put_none, put_on}
 use Rattle.worksheet.specs.Speeds.{speed_part}

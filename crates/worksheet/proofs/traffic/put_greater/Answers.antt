@@ -1,6 +1,5 @@
 -- `worksheet::traffic::put_greater` meets its contract: each way out is a case of the text.
 use native.Mathlib.Omega.{arith}
-use borrow.Author.Rules.{rules}
 use borrow.Author.Tests.{lt-ltb, le-ltb, eq-eqb, ne_eqb}
 use Rattle.worksheet.specs.Traffic.{greater_text}
 use Rattle.worksheet.proofs.traffic.put_greater.Goals as goal

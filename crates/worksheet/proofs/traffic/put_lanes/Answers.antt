@@ -1,6 +1,5 @@
 -- `worksheet::traffic::put_lanes` meets its contract: named lanes, or both sides of the rule.
 use native.Mathlib.Omega.{arith}
-use borrow.Author.Rules.{rules}
 use borrow.Author.Tests.{eq-eqb, ne_eqb}
 use Rattle.worksheet.specs.Traffic.{lanes_part}
 use Rattle.worksheet.proofs.traffic.put_lanes.Goals as goal

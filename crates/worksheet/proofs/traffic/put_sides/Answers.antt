@@ -1,6 +1,5 @@
 -- `worksheet::traffic::put_sides` meets its contract: both sides, and then which is greater.
 use native.Mathlib.Omega.{arith}
-use borrow.Author.Rules.{rules}
 use Rattle.lines.proofs.putting.Placing.{put_on}
 use Rattle.worksheet.specs.Traffic.{traffic_text}
 use Rattle.worksheet.proofs.traffic.put_sides.Goals as goal

@@ -1,6 +1,5 @@
 -- `worksheet::widths::put_bed_items` meets its contract: its four lines, one behind another.
 use native.Mathlib.Omega.{arith}
-use borrow.Author.Rules.{rules}
 use Rattle.lines.proofs.putting.Placing.{put_on}
 use Rattle.worksheet.specs.Widths.{bed_items}
 use Rattle.worksheet.proofs.widths.put_bed_items.Goals as goal

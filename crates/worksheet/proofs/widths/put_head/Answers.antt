@@ -1,6 +1,5 @@
 -- `worksheet::widths::put_head` meets its contract: its text, filled with the beam and the words of the speed and the water.
 use native.Mathlib.Omega.{arith}
-use borrow.Author.Rules.{rules}
 use Rattle.worksheet.specs.Widths.{width_head}
 use Rattle.worksheet.proofs.widths.put_head.Goals as goal
 

@@ -1,6 +1,5 @@
 -- `worksheet::widths::put_items` meets its contract: its parts, one behind another.
 use native.Mathlib.Omega.{arith}
-use borrow.Author.Rules.{rules}
 use Rattle.lines.proofs.putting.Placing.{put_on}
 use Rattle.worksheet.specs.Widths.{items_text}
 use Rattle.worksheet.proofs.widths.put_items.Goals as goal

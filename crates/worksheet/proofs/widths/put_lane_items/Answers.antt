@@ -1,6 +1,5 @@
 -- `worksheet::widths::put_lane_items` meets its contract: its two lines, one behind another.
 use native.Mathlib.Omega.{arith}
-use borrow.Author.Rules.{rules}
 use Rattle.lines.proofs.putting.Placing.{put_on}
 use Rattle.worksheet.specs.Widths.{lane_items}
 use Rattle.worksheet.proofs.widths.put_lane_items.Goals as goal

@@ -1,6 +1,5 @@
 -- `worksheet::widths::put_passing_items` meets its contract: nothing for one lane, two lines for two.
 use native.Mathlib.Omega.{arith}
-use borrow.Author.Rules.{rules}
 use Rattle.lines.proofs.putting.Placing.{put_none}
 use Rattle.worksheet.specs.Widths.{between_items}
 use Rattle.worksheet.proofs.widths.put_passing_items.Goals as goal

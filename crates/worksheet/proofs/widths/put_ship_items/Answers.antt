@@ -1,6 +1,5 @@
 -- `worksheet::widths::put_ship_items` meets its contract: its five lines, one behind another.
 use native.Mathlib.Omega.{arith}
-use borrow.Author.Rules.{rules}
 use Rattle.lines.proofs.putting.Placing.{put_on}
 use Rattle.worksheet.specs.Widths.{ship_items}
 use Rattle.worksheet.proofs.widths.put_ship_items.Goals as goal

@@ -1,6 +1,5 @@
 -- `worksheet::widths::put_sum` meets its contract: its text, filled with the tenths, the beam and the width.
 use native.Mathlib.Omega.{arith}
-use borrow.Author.Rules.{rules}
 use Rattle.worksheet.specs.Widths.{width_sum}
 use Rattle.worksheet.proofs.widths.put_sum.Goals as goal
 

@@ -1,6 +1,5 @@
 -- `worksheet::widths::put_width` meets its contract: its head, its items and its sum, one behind another.
 use native.Mathlib.Omega.{arith}
-use borrow.Author.Rules.{rules}
 use Rattle.lines.proofs.putting.Placing.{put_on}
 use Rattle.worksheet.specs.Widths.{width_part}
 use Rattle.worksheet.proofs.widths.put_width.Goals as goal

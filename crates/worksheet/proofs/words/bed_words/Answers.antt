@@ -1,5 +1,4 @@
 -- `worksheet::words::bed_words` meets its contract: a way out for each band.
-use borrow.Author.Rules.{rules}
 use borrow.Author.Tests.{eq-eqb, le-leb, lt-leb, ne_eqb}
 use Rattle.worksheet.specs.Words.{bed_words}
 use Rattle.worksheet.proofs.words.bed_words.Goals as goal

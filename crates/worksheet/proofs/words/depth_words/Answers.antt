@@ -1,5 +1,4 @@
 -- `worksheet::words::depth_words` meets its contract: a way out for each band, in open and in sheltered water.
-use borrow.Author.Rules.{rules}
 use borrow.Author.Tests.{le-leb, lt-leb}
 use Rattle.worksheet.specs.Words.{depth_words}
 use Rattle.worksheet.proofs.words.depth_words.Goals as goal

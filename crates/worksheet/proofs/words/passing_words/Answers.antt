@@ -1,5 +1,4 @@
 -- `worksheet::words::passing_words` meets its contract: a way out for each speed.
-use borrow.Author.Rules.{rules}
 use Rattle.worksheet.proofs.words.passing_words.Goals as goal
 
 pub returns-in-Moderate : goal.returns-in-Moderate

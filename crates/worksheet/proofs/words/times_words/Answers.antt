@@ -1,5 +1,4 @@
 -- `worksheet::words::times_words` meets its contract: a way out for each number of lanes.
-use borrow.Author.Rules.{rules}
 use Rattle.worksheet.proofs.words.times_words.Goals as goal
 
 pub returns-in-One : goal.returns-in-One
