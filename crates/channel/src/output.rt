@@ -2,6 +2,7 @@
 ghost use Rattle.std.specs.Prelude.{◌≡◌};
 ghost use Rattle.channel.specs.Output.{place_for};
 
+use std::alloc::{AllocError, Global};
 use std::io;
 use std::io::Print;
 
@@ -15,12 +16,31 @@ pub struct Out {
     pub open: bool,
 }
 
+// The system's words for an error, without the number that stands behind them.
+fn words_of(alloc: Global, error: io::Error) -> Result<String, AllocError> {
+    let whole = format!(in alloc; "{error}")?;
+    match whole.as_str().split_once(" (os error ") {
+        Some((words, _)) => format!(in alloc; "{words}"),
+        None => Ok(whole),
+    }
+}
+
+// Tells on standard error what failed, by the system's words.
+fn fail_by(rt: HostRuntime, what: &str, error: io::Error) {
+    let _ = match words_of(rt.alloc(), error) {
+        Ok(words) => eprintln!(rt; "{what}: {words}"),
+        Err(_) => eprintln!(rt; "{what}: {error}"),
+    };
+}
+
 // Tells on standard error what failed, and by which error; without one it took too many turns.
 pub fn fail(rt: HostRuntime, what: &str, failure: Option<io::Error>) {
-    let _ = match failure {
-        Some(error) => eprintln!(rt; "{what}: {error}"),
-        None => eprintln!(rt; "{what}: it comes in too many parts"),
-    };
+    match failure {
+        Some(error) => fail_by(rt, what, error),
+        None => {
+            let _ = eprintln!(rt; "{what}: it comes in too many parts");
+        }
+    }
 }
 
 // Writes the buffer's first bytes; an error where the output takes no more.
