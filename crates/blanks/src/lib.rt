@@ -1,5 +1,6 @@
 // A text whose blanks are filled with figures: `%` and one byte for the width, and the next figure stands there.
 #![tactic(auto)]
+
 ghost use Rattle.std.specs.Prelude.{◌≡◌, ◌+◌, ◌*◌, ◌≤◌, length};
 ghost use Rattle.laws.specs.Choice.{◌≤ᵇ◌};
 ghost use Rattle.lines.specs.Lines.{place_within, buffer_within, Put};

@@ -6,7 +6,6 @@ ghost use Rattle.channel.specs.Printing.{worked_in};
 use crate::output;
 use both::{Both, Verdict};
 use gauge::LevelRead;
-use libc::STDERR_FILENO;
 use lines::Form;
 
 // The bytes of the message that names a sheet: its words have 50, and its index at most 20.
@@ -34,7 +33,7 @@ pub fn with_verdict(agreed: u64, verdict: Verdict) -> u64
 }
 
 // Names a sheet on standard error.
-fn tell_sheet(index: u64) {
+fn tell_sheet(rt: HostRuntime, index: u64) {
     let mut message = [0u8; MESSAGE];
     let named = lines::put_bytes(b"sheet ", &mut message, 0);
     let numbered = lines::put_decimal(index, &mut message, named);
@@ -43,13 +42,13 @@ fn tell_sheet(index: u64) {
         &mut message,
         numbered,
     );
-    output::write_first(STDERR_FILENO, &message, end);
+    let _ = output::write_first(&rt.stderr(), &message, end);
 }
 
 // Tells of a sheet on which the two engines differ.
-pub fn tell(index: u64, verdict: Verdict) {
+pub fn tell(rt: HostRuntime, index: u64, verdict: Verdict) {
     match verdict {
-        Verdict::Differed => tell_sheet(index),
+        Verdict::Differed => tell_sheet(rt, index),
         Verdict::NotCome => {}
         Verdict::Agreed => {}
     }

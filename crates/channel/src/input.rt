@@ -3,6 +3,9 @@ ghost use Rattle.std.specs.Prelude.{◌≡◌, false, ◌-◌, ◌<◌, length, 
 ghost use Rattle.laws.specs.Choice.{ifᵇ◌then◌else◌};
 ghost use Rattle.channel.specs.Input.{GotWithin, Filling};
 
+use std::io;
+use std::io::Read;
+
 // As many turns as 64 bits hold, so that each loop ends; no input comes in as many parts.
 pub const TURNS: u64 = 18446744073709551615;
 
@@ -12,50 +15,54 @@ pub enum Got {
     Bytes(usize),
     End,
     Interrupted,
-    Failed,
+    Failed(io::Error),
 }
 
 // What a read answered that could give so many bytes at most.
-fn got_of(answer: isize, most: usize) -> Got
+fn got_of(answer: io::Result<usize>, most: usize) -> Got
     ensures { GotWithin result most }
 {
-    if answer < 0 {
-        if os::errno() == libc::EINTR {
-            return Got::Interrupted;
+    match answer {
+        Ok(count) => {
+            if count == 0 {
+                return Got::End;
+            }
+            if most < count {
+                return Got::Failed(io::Error::from(io::ErrorKind::InvalidData));
+            }
+            Got::Bytes(count)
         }
-        return Got::Failed;
+        Err(error) => {
+            if error.kind() == io::ErrorKind::Interrupted {
+                return Got::Interrupted;
+            }
+            Got::Failed(error)
+        }
     }
-    let count = answer as usize;
-    if count == 0 {
-        return Got::End;
-    }
-    if most < count {
-        return Got::Failed;
-    }
-    Got::Bytes(count)
 }
 
 // One read into what is left of a space, which is some, so that no byte means the end; what the space has stays.
-fn read_some(fd: i32, space: &mut [u8], have: usize) -> Got
+fn read_some<R: Read>(reader: &mut R, space: &mut [u8], have: usize) -> Got
     requires { have < length space.old }
     ensures got_within { GotWithin result (length space.old - have) }
     ensures space_unchanged { take have space.new ≡ take have space.old }
 {
     let most = space.len() - have;
-    let answer = libc::read(fd, &mut space[have..]);
+    let answer = reader.read(&mut space[have..]);
     got_of(answer, most)
 }
 
-// How much of a space was filled, and why no more: it is full, the input ended, or a read failed.
+// How much of a space was filled, and why no more: it is full, the input ended, or a read failed, by an error, if not by too many turns.
 #[derive(Clone, Copy)]
 pub struct Filled {
     pub count: usize,
     pub ended: bool,
     pub failed: bool,
+    pub error: Option<io::Error>,
 }
 
 // Fills a space from its start.
-pub fn fill(fd: i32, space: &mut [u8]) -> Filled
+pub fn fill<R: Read>(reader: &mut R, space: &mut [u8]) -> Filled
     ensures { Filling result (length space.old) }
 {
     let mut have: usize = 0;
@@ -66,10 +73,11 @@ pub fn fill(fd: i32, space: &mut [u8]) -> Filled
                 count: have,
                 ended: true,
                 failed: true,
+                error: None,
             };
         }
         turns -= 1;
-        let got = read_some(fd, &mut *space, have);
+        let got = read_some(&mut *reader, &mut *space, have);
         match got {
             Got::Bytes(count) => {
                 have += count;
@@ -79,14 +87,16 @@ pub fn fill(fd: i32, space: &mut [u8]) -> Filled
                     count: have,
                     ended: true,
                     failed: false,
+                    error: None,
                 };
             }
             Got::Interrupted => {}
-            Got::Failed => {
+            Got::Failed(error) => {
                 return Filled {
                     count: have,
                     ended: true,
                     failed: true,
+                    error: Some(error),
                 };
             }
         }
@@ -95,6 +105,7 @@ pub fn fill(fd: i32, space: &mut [u8]) -> Filled
         count: have,
         ended: false,
         failed: false,
+        error: None,
     }
 }
 

@@ -1,6 +1,7 @@
 // The program: sheets in, a line a sheet out (definition, section 10); the words type, show and form (section 14); the worksheets (section 15); and the word both, by which
 // the plain engine's figures stand behind the worksheet's (section 16).
 #![tactic(auto)]
+
 ghost use Rattle.std.specs.Prelude.{◌≤◌, length};
 ghost use Rattle.lines.specs.Lines.{line_bytes};
 ghost use Rattle.channel.specs.Printing.{LinesPrinted, TextPrinted};
@@ -9,9 +10,9 @@ use crate::levels::Loaded;
 use crate::reading::Task;
 use crate::worksheets::Source;
 use gauge::LevelRead;
-use libc::STDERR_FILENO;
 use lines::Form;
 use record::Counts;
+use std::env::{Env, FillError};
 
 mod engines;
 mod input;
@@ -31,17 +32,24 @@ enum Text {
     Cut,
 }
 
+// The bytes of the buffer in which lines wait.
+const BUFFER: usize = 65536;
+
 // The bytes of the command's longest word, and some.
 const WORD: usize = 16;
 
-fn main() {
-    let mut buffer = io::large_buffer();
+fn main(rt: HostRuntime) {
+    let mut buffer = [0u8; BUFFER];
     let mut space = [0u8; WORD];
-    let length = os::arg(1, &mut space);
-    let text = of_word(os::arg_count(), &space[..length], &mut buffer);
+    let text = match rt.arg(1, &mut space) {
+        Ok(length) => of_word(rt, Some(&space[..length]), &mut buffer),
+        Err(FillError::NotPresent) => of_word(rt, None, &mut buffer),
+        // No word of the program's is as long.
+        Err(FillError::TooLong) => of_word(rt, Some(b""), &mut buffer),
+    };
     match text {
         Text::Whole(rest) => {
-            output::put_out(&buffer, rest);
+            output::put_out(rt, &buffer, rest);
         }
         Text::Cut => {}
     }
@@ -56,62 +64,74 @@ fn same_word(word: &[u8], name: &[u8]) -> bool {
 }
 
 // What the program's first word asks for; without one it prints.
-fn of_word(words: usize, word: &[u8], buffer: &mut [u8]) -> Text
+fn of_word(rt: HostRuntime, first: Option<&[u8]>, buffer: &mut [u8]) -> Text
     requires { 65536 ≤ length buffer.old }
 {
-    if words < 2 {
-        return print(Form::Alone, buffer);
-    }
+    let word = match first {
+        Some(word) => word,
+        None => return print(rt, Form::Alone, buffer),
+    };
     if same_word(word, b"both") {
-        return print(Form::Both, buffer);
+        return print(rt, Form::Both, buffer);
     }
     if same_word(word, b"type") {
-        return reading::of_input(Task::Type, buffer);
+        return reading::of_input(rt, Task::Type, buffer);
     }
     if same_word(word, b"show") {
-        return showing::show(buffer);
+        return showing::show(rt, buffer);
     }
     if same_word(word, b"worksheet") {
-        return reading::of_input(Task::Worksheets(Source::Bytes), buffer);
+        return reading::of_input(rt, Task::Worksheets(Source::Bytes), buffer);
     }
     if same_word(word, b"worksheet-text") {
-        return reading::of_input(Task::Worksheets(Source::Typed), buffer);
+        return reading::of_input(rt, Task::Worksheets(Source::Typed), buffer);
     }
     if same_word(word, b"form") {
         return Text::Whole(texts::put_form(buffer, 0));
     }
-    io::write_all(
-        STDERR_FILENO,
-        b"no such word: both, type, show, form, worksheet and worksheet-text are known\n",
+    let _ = eprintln!(rt;
+        "no such word: both, type, show, form, worksheet and worksheet-text are known"
     );
     Text::Cut
 }
 
 // The text of the record and the sheets.
-fn print(form: Form, buffer: &mut [u8]) -> Text
+fn print(rt: HostRuntime, form: Form, buffer: &mut [u8]) -> Text
     requires { line_bytes ≤ length buffer.old }
     ensures { TextPrinted form buffer.old result buffer.new }
 {
     let mut table = [0u32; gauge::SLOTS];
-    let loaded = levels::load(&mut table);
+    let loaded = levels::load(rt, &mut table);
     match loaded {
-        Loaded::Counted(counts) => print_lines(form, gauge::design_level(&table), counts, buffer),
+        Loaded::Counted(counts) => print_lines(
+            rt,
+            form,
+            gauge::design_level(&table),
+            counts,
+            buffer,
+        ),
         Loaded::NotRead => Text::Cut,
     }
 }
 
 // The record's line, the sheets' lines and the route's, written as the buffer fills but for the last of them.
-fn print_lines(form: Form, level: LevelRead, counts: Counts, buffer: &mut [u8]) -> Text
+fn print_lines(
+    rt: HostRuntime,
+    form: Form,
+    level: LevelRead,
+    counts: Counts,
+    buffer: &mut [u8],
+) -> Text
     requires { line_bytes ≤ length buffer.old }
     ensures { LinesPrinted form level counts buffer.old result buffer.new }
 {
     let at = lines::put_levels_line(counts.added, counts.missing, counts.refused, buffer, 0);
-    let printed = sheets::print_all(form, level, buffer, at);
+    let printed = sheets::print_all(rt, form, level, buffer, at);
     if !printed.whole {
-        output::cut_short(buffer, printed.state.out);
+        output::cut_short(rt, buffer, printed.state.out, printed.failure);
         return Text::Cut;
     }
-    let last = sheets::print_route(form, buffer, printed.state);
+    let last = sheets::print_route(rt, form, buffer, printed.state);
     if last.open {
         return Text::Whole(last.at);
     }

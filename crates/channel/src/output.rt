@@ -2,7 +2,11 @@
 ghost use Rattle.std.specs.Prelude.{◌≡◌};
 ghost use Rattle.channel.specs.Output.{place_for};
 
-use libc::STDOUT_FILENO;
+use std::io;
+use std::io::Print;
+
+// The number of the system's error where a descriptor is closed.
+const BAD_DESCRIPTOR: i32 = 9;
 
 // Where the next line goes in the buffer, and whether the output still takes it.
 #[derive(Clone, Copy)]
@@ -11,41 +15,55 @@ pub struct Out {
     pub open: bool,
 }
 
-// Writes the buffer's first bytes; false where the output takes no more.
-pub fn write_first(output: i32, buffer: &[u8], count: usize) -> bool {
+// Tells on standard error what failed, and by which error; without one it took too many turns.
+pub fn fail(rt: HostRuntime, what: &str, failure: Option<io::Error>) {
+    let _ = match failure {
+        Some(error) => eprintln!(rt; "{what}: {error}"),
+        None => eprintln!(rt; "{what}: it comes in too many parts"),
+    };
+}
+
+// Writes the buffer's first bytes; an error where the output takes no more.
+pub fn write_first<P: Print>(output: &P, buffer: &[u8], count: usize) -> io::Result<()> {
     if count <= buffer.len() {
-        io::write_all(output, &buffer[..count])
+        output.write_all(&buffer[..count])
     } else {
-        false
+        Err(io::Error::from(io::ErrorKind::InvalidInput))
     }
 }
 
-// The same, and what is wrong with an output that takes no more is told; a closed one is left quietly.
-pub fn put_out(buffer: &[u8], count: usize) -> bool {
-    if write_first(STDOUT_FILENO, buffer, count) {
-        return true;
+// Whether an output takes no more because it is closed, or nobody reads it.
+fn is_closed(error: io::Error) -> bool {
+    error.kind() == io::ErrorKind::BrokenPipe || error.raw_os_error() == Some(BAD_DESCRIPTOR)
+}
+
+// Writes the buffer's first bytes to standard output; false where that takes no more. What is wrong with it is told; a closed one is left quietly.
+pub fn put_out(rt: HostRuntime, buffer: &[u8], count: usize) -> bool {
+    match write_first(&rt.stdout(), buffer, count) {
+        Ok(()) => true,
+        Err(error) => {
+            if !is_closed(error) {
+                fail(rt, "standard output", Some(error));
+            }
+            false
+        }
     }
-    let error = os::errno();
-    if error != libc::EPIPE && error != libc::EBADF {
-        os::fail(b"standard output");
-    }
-    false
 }
 
 // Ready for a line that is given so much room: what stands in the buffer is written where less is left and the output takes it.
-pub fn made_ready(buffer: &[u8], out: Out, room: usize) -> Out
+pub fn made_ready(rt: HostRuntime, buffer: &[u8], out: Out, room: usize) -> Out
     ensures { result.at ≡ place_for room buffer.now out.at }
 {
     if lines::fits(buffer.len(), out.at, room) {
         return out;
     }
-    let open = out.open && put_out(buffer, out.at);
+    let open = out.open && put_out(rt, buffer, out.at);
     Out { at: 0, open }
 }
 
 // Where the input failed, what waits is written, and then that is told. A closed output is left quietly.
-pub fn cut_short(buffer: &[u8], out: Out) {
-    if out.open && put_out(buffer, out.at) {
-        os::fail(b"standard input");
+pub fn cut_short(rt: HostRuntime, buffer: &[u8], out: Out, failure: Option<io::Error>) {
+    if out.open && put_out(rt, buffer, out.at) {
+        fail(rt, "standard input", failure);
     }
 }

@@ -6,8 +6,8 @@ ghost use Rattle.channel.specs.declared.reading.Whole.TheVariants.{NotRead};
 
 use crate::input::Filled;
 use crate::worksheets::Source;
-use crate::{Text, input, typing, worksheets};
-use libc::{STDERR_FILENO, STDIN_FILENO};
+use crate::{Text, input, output, typing, worksheets};
+use std::io;
 
 // The bytes of the longest input that is read whole.
 const LONGEST: usize = 4194304;
@@ -27,9 +27,9 @@ enum Whole {
 }
 
 // What standard input has behind an input that fills its space: a byte, none, or a read that fails.
-fn behind() -> Filled {
+fn behind(rt: HostRuntime) -> Filled {
     let mut space = [0u8; 1];
-    input::fill(STDIN_FILENO, &mut space)
+    input::fill(&mut rt.stdin(), &mut space)
 }
 
 // The space of the longest input.
@@ -39,61 +39,58 @@ fn input_space() -> [u8; LONGEST]
     [0; LONGEST]
 }
 
-fn not_read() -> Whole
+fn not_read(rt: HostRuntime, failure: Option<io::Error>) -> Whole
     ensures { result ≡ NotRead }
 {
-    os::fail(b"standard input");
+    output::fail(rt, "standard input", failure);
     Whole::NotRead
 }
 
-fn too_long() -> Whole
+fn too_long(rt: HostRuntime) -> Whole
     ensures { result ≡ NotRead }
 {
-    io::write_all(
-        STDERR_FILENO,
-        b"standard input: longer than 4194304 bytes\n",
-    );
+    let _ = eprintln!(rt; "standard input: longer than 4194304 bytes");
     Whole::NotRead
 }
 
 // Standard input, read to its end.
-fn read_whole(space: &mut [u8]) -> Whole
+fn read_whole(rt: HostRuntime, space: &mut [u8]) -> Whole
     ensures { ReadWithin result (length space.old) }
 {
-    let filled = input::fill(STDIN_FILENO, &mut *space);
+    let filled = input::fill(&mut rt.stdin(), &mut *space);
     if filled.failed {
-        return not_read();
+        return not_read(rt, filled.error);
     }
     if !filled.ended {
-        let rest = behind();
+        let rest = behind(rt);
         if rest.failed {
-            return not_read();
+            return not_read(rt, rest.error);
         }
         if 0 < rest.count {
-            return too_long();
+            return too_long(rt);
         }
     }
     Whole::Bytes(filled.count)
 }
 
 // What a task makes of an input.
-fn made_of(task: Task, input: &[u8], buffer: &mut [u8]) -> Text
+fn made_of(rt: HostRuntime, task: Task, input: &[u8], buffer: &mut [u8]) -> Text
     requires { page_bytes ≤ length buffer.old }
 {
     match task {
-        Task::Type => typing::type_text(input, buffer),
-        Task::Worksheets(source) => worksheets::over_record(source, input, buffer),
+        Task::Type => typing::type_text(rt, input, buffer),
+        Task::Worksheets(source) => worksheets::over_record(rt, source, input, buffer),
     }
 }
 
 // What a task makes of standard input.
-pub fn of_input(task: Task, buffer: &mut [u8]) -> Text
+pub fn of_input(rt: HostRuntime, task: Task, buffer: &mut [u8]) -> Text
     requires { page_bytes ≤ length buffer.old }
 {
     let mut space = input_space();
-    let read = read_whole(&mut space);
+    let read = read_whole(rt, &mut space);
     match read {
-        Whole::Bytes(count) => made_of(task, &space[..count], buffer),
+        Whole::Bytes(count) => made_of(rt, task, &space[..count], buffer),
         Whole::NotRead => Text::Cut,
     }
 }

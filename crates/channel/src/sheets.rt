@@ -8,8 +8,8 @@ use crate::output::Out;
 use crate::route::Route;
 use crate::{engines, input, output, route};
 use gauge::LevelRead;
-use libc::STDIN_FILENO;
 use lines::Form;
+use std::io;
 
 // A whole number of sheets.
 pub const BLOCK: usize = 65520;
@@ -25,12 +25,19 @@ pub struct State {
 }
 
 // The line of one sheet.
-fn print_sheet(form: Form, level: LevelRead, sheet: &[u8], buffer: &mut [u8], state: State) -> State
+fn print_sheet(
+    rt: HostRuntime,
+    form: Form,
+    level: LevelRead,
+    sheet: &[u8],
+    buffer: &mut [u8],
+    state: State,
+) -> State
     ensures { progress result buffer.new ≡ sheets_printed form level (sheet.now ∷ []) (progress state buffer.old) }
 {
     let so_far = state.route;
     let out = state.out;
-    let ready = output::made_ready(buffer, out, lines::LINE_BYTES);
+    let ready = output::made_ready(rt, buffer, out, lines::LINE_BYTES);
     let worked = engines::worked(form, sheet, level);
     let answer = worked.answer;
     let plain = worked.plain;
@@ -39,7 +46,7 @@ fn print_sheet(form: Form, level: LevelRead, sheet: &[u8], buffer: &mut [u8], st
     let numbers = design::numbers(answer);
     let after = lines::put_sheet_line(form, route.sheets, numbers, plain, buffer, ready.at);
     let agreed = engines::with_verdict(state.agreed, verdict);
-    engines::tell(route.sheets, verdict);
+    engines::tell(rt, route.sheets, verdict);
     State {
         out: Out {
             at: after,
@@ -62,14 +69,21 @@ pub fn sheet_end(from: usize, bytes: usize) -> usize
 }
 
 // The lines of the sheets of a block.
-fn print_block(form: Form, level: LevelRead, block: &[u8], buffer: &mut [u8], state: State) -> State
+fn print_block(
+    rt: HostRuntime,
+    form: Form,
+    level: LevelRead,
+    block: &[u8],
+    buffer: &mut [u8],
+    state: State,
+) -> State
     ensures { progress result buffer.new ≡ sheets_printed form level (sheets_of block.now) (progress state buffer.old) }
 {
     let mut now = state;
     let mut from: usize = 0;
     while from < block.len() {
         let to = sheet_end(from, block.len());
-        now = print_sheet(form, level, &block[from..to], &mut *buffer, now);
+        now = print_sheet(rt, form, level, &block[from..to], &mut *buffer, now);
         from = to;
     }
     now
@@ -94,6 +108,7 @@ struct Turn {
 
 // One block of the input, full or to its end, in a space that is made once for all blocks.
 fn print_some(
+    rt: HostRuntime,
     form: Form,
     level: LevelRead,
     space: &mut [u8],
@@ -102,24 +117,31 @@ fn print_some(
 ) -> Turn
     ensures { BlockPrinted form level (progress state buffer.old) result space.new buffer.new }
 {
-    let filled = input::fill(STDIN_FILENO, &mut *space);
+    let filled = input::fill(&mut rt.stdin(), &mut *space);
     let count = printed_of(filled);
-    let after = print_block(form, level, &space[..count], buffer, state);
+    let after = print_block(rt, form, level, &space[..count], buffer, state);
     Turn {
         state: after,
         filled,
     }
 }
 
-// The state after the last sheet, and whether the input was read to its end and the output takes it.
+// The state after the last sheet, whether the input was read to its end and the output takes it, and by which error it was not read.
 #[derive(Clone, Copy)]
 pub struct Sheets {
     pub state: State,
     pub whole: bool,
+    pub failure: Option<io::Error>,
 }
 
 // Every sheet of standard input, from a place of the buffer on.
-pub fn print_all(form: Form, level: LevelRead, buffer: &mut [u8], at: usize) -> Sheets
+pub fn print_all(
+    rt: HostRuntime,
+    form: Form,
+    level: LevelRead,
+    buffer: &mut [u8],
+    at: usize,
+) -> Sheets
     ensures { AllPrinted form level at buffer.old result buffer.new }
 {
     let route = route::no_sheets();
@@ -131,33 +153,40 @@ pub fn print_all(form: Form, level: LevelRead, buffer: &mut [u8], at: usize) -> 
     let mut space = [0u8; BLOCK];
     let mut more = true;
     let mut whole = true;
+    let mut failure = None;
     let mut turns = input::TURNS;
     while more {
         if turns == 0 {
             return Sheets {
                 state,
                 whole: false,
+                failure: None,
             };
         }
         turns -= 1;
-        let turn = print_some(form, level, &mut space, &mut *buffer, state);
+        let turn = print_some(rt, form, level, &mut space, &mut *buffer, state);
         let after = turn.state;
         let filled = turn.filled;
         let out = after.out;
         state = after;
+        failure = filled.error;
         whole = input::is_whole(filled, out.open);
         more = input::goes_on(filled, whole);
     }
-    Sheets { state, whole }
+    Sheets {
+        state,
+        whole,
+        failure,
+    }
 }
 
 // The route's line behind those of the sheets.
-pub fn print_route(form: Form, buffer: &mut [u8], state: State) -> Out
+pub fn print_route(rt: HostRuntime, form: Form, buffer: &mut [u8], state: State) -> Out
     ensures { RoutePrinted form state buffer.old result.at buffer.new }
 {
     let route = state.route;
     let out = state.out;
-    let ready = output::made_ready(buffer, out, lines::LINE_BYTES);
+    let ready = output::made_ready(rt, buffer, out, lines::LINE_BYTES);
     let after = lines::put_route_line(
         form,
         route.sheets,

@@ -7,7 +7,7 @@ ghost use Rattle.channel.specs.Showing.{progress, sheets_shown, BlockShown, AllS
 use crate::input::Filled;
 use crate::output::Out;
 use crate::{Text, input, output, sheets};
-use libc::STDIN_FILENO;
+use std::io;
 
 // The texts so far, and the index of the last.
 #[derive(Clone, Copy)]
@@ -17,12 +17,12 @@ struct State {
 }
 
 // The text of one sheet.
-fn show_sheet(sheet: &[u8], buffer: &mut [u8], state: State) -> State
+fn show_sheet(rt: HostRuntime, sheet: &[u8], buffer: &mut [u8], state: State) -> State
     ensures { progress result buffer.new ≡ sheets_shown (sheet.now ∷ []) (progress state buffer.old) }
 {
     let index = record::one_more(state.index);
     let out = state.out;
-    let ready = output::made_ready(buffer, out, texts::SHOWN_BYTES);
+    let ready = output::made_ready(rt, buffer, out, texts::SHOWN_BYTES);
     let after = texts::put_shown(index, sheet, buffer, ready.at);
     State {
         out: Out {
@@ -34,14 +34,14 @@ fn show_sheet(sheet: &[u8], buffer: &mut [u8], state: State) -> State
 }
 
 // The texts of the sheets of a block.
-fn show_block(block: &[u8], buffer: &mut [u8], state: State) -> State
+fn show_block(rt: HostRuntime, block: &[u8], buffer: &mut [u8], state: State) -> State
     ensures { progress result buffer.new ≡ sheets_shown (sheets_of block.now) (progress state buffer.old) }
 {
     let mut now = state;
     let mut from: usize = 0;
     while from < block.len() {
         let to = sheets::sheet_end(from, block.len());
-        now = show_sheet(&block[from..to], &mut *buffer, now);
+        now = show_sheet(rt, &block[from..to], &mut *buffer, now);
         from = to;
     }
     now
@@ -55,27 +55,28 @@ struct Turn {
 }
 
 // One block of the input, full or to its end, in a space that is made once for all blocks.
-fn show_some(space: &mut [u8], buffer: &mut [u8], state: State) -> Turn
+fn show_some(rt: HostRuntime, space: &mut [u8], buffer: &mut [u8], state: State) -> Turn
     ensures { BlockShown (progress state buffer.old) result space.new buffer.new }
 {
-    let filled = input::fill(STDIN_FILENO, &mut *space);
+    let filled = input::fill(&mut rt.stdin(), &mut *space);
     let count = sheets::printed_of(filled);
-    let after = show_block(&space[..count], buffer, state);
+    let after = show_block(rt, &space[..count], buffer, state);
     Turn {
         state: after,
         filled,
     }
 }
 
-// The state after the last sheet, and whether the input was read to its end and the output takes it.
+// The state after the last sheet, whether the input was read to its end and the output takes it, and by which error it was not read.
 #[derive(Clone, Copy)]
 struct Shown {
     state: State,
     whole: bool,
+    failure: Option<io::Error>,
 }
 
 // Every sheet of standard input, from the beginning of the buffer on.
-fn show_all(buffer: &mut [u8]) -> Shown
+fn show_all(rt: HostRuntime, buffer: &mut [u8]) -> Shown
     ensures { AllShown buffer.old result buffer.new }
 {
     let mut state = State {
@@ -85,36 +86,43 @@ fn show_all(buffer: &mut [u8]) -> Shown
     let mut space = [0u8; sheets::BLOCK];
     let mut more = true;
     let mut whole = true;
+    let mut failure = None;
     let mut turns = input::TURNS;
     while more {
         if turns == 0 {
             return Shown {
                 state,
                 whole: false,
+                failure: None,
             };
         }
         turns -= 1;
-        let turn = show_some(&mut space, &mut *buffer, state);
+        let turn = show_some(rt, &mut space, &mut *buffer, state);
         let after = turn.state;
         let filled = turn.filled;
         let out = after.out;
         state = after;
+        failure = filled.error;
         whole = input::is_whole(filled, out.open);
         more = input::goes_on(filled, whole);
     }
-    Shown { state, whole }
+    Shown {
+        state,
+        whole,
+        failure,
+    }
 }
 
 // The text of what standard input has, written as the buffer fills but for the last of it.
-pub fn show(buffer: &mut [u8]) -> Text
+pub fn show(rt: HostRuntime, buffer: &mut [u8]) -> Text
     requires { shown_bytes ≤ length buffer.old }
     ensures { TextShown buffer.old result buffer.new }
 {
-    let shown = show_all(buffer);
+    let shown = show_all(rt, buffer);
     let state = shown.state;
     let out = state.out;
     if !shown.whole {
-        output::cut_short(buffer, out);
+        output::cut_short(rt, buffer, out, shown.failure);
         return Text::Cut;
     }
     Text::Whole(out.at)

@@ -8,21 +8,20 @@ ghost use Rattle.channel.specs.Typing.{is_over, is_fault, any_fault, lines_at, F
 
 use crate::output::Out;
 use crate::{Text, output};
-use libc::STDERR_FILENO;
 use texts::{Event, Found, LineFault, Place};
 
 // The bytes of a message.
 const MESSAGE: usize = 1024;
 
 // Writes the message of a fault to standard error.
-fn tell(text: &[u8], fault: LineFault, row: usize, place: Place) {
+fn tell(rt: HostRuntime, text: &[u8], fault: LineFault, row: usize, place: Place) {
     let mut message = [0u8; MESSAGE];
     let end = texts::put_message(text, fault, row, place, &mut message, 0);
-    output::write_first(STDERR_FILENO, &message, end);
+    let _ = output::write_first(&rt.stderr(), &message, end);
 }
 
 // Tells what was found, where it is a fault; whether it is one.
-fn tell_found(text: &[u8], found: Found) -> bool
+fn tell_found(rt: HostRuntime, text: &[u8], found: Found) -> bool
     ensures { result ≡ is_fault found.event }
 {
     let event = found.event;
@@ -31,7 +30,7 @@ fn tell_found(text: &[u8], found: Found) -> bool
         Event::Nothing => false,
         Event::Sheet => false,
         Event::Fault(fault, row) => {
-            tell(text, fault, row, place);
+            tell(rt, text, fault, row, place);
             true
         }
     }
@@ -58,7 +57,7 @@ fn either(a: bool, b: bool) -> bool
 }
 
 // Tells every fault of a text; whether it has one.
-pub fn tell_faults(text: &[u8]) -> bool
+pub fn tell_faults(rt: HostRuntime, text: &[u8]) -> bool
     ensures { result ≡ any_fault (all_of text.now) }
 {
     let mut now = texts::begin();
@@ -70,17 +69,17 @@ pub fn tell_faults(text: &[u8]) -> bool
         if is_over(event) {
             return told;
         }
-        let fault = tell_found(text, found);
+        let fault = tell_found(rt, text, found);
         told = either(told, fault);
         now = after;
     }
 }
 
 // Puts the bytes of a sheet's figures behind those that wait in the buffer.
-fn put_figures(figures: [u32; sheet::COUNT], buffer: &mut [u8], out: Out) -> Out
+fn put_figures(rt: HostRuntime, figures: [u32; sheet::COUNT], buffer: &mut [u8], out: Out) -> Out
     ensures { lines_at result buffer.new ≡ with_line sheet_bytes (sheet_text figures) (lines_at out buffer.old) }
 {
-    let ready = output::made_ready(buffer, out, texts::SHEET_BYTES);
+    let ready = output::made_ready(rt, buffer, out, texts::SHEET_BYTES);
     let at = texts::put_sheet(figures, buffer, ready.at);
     Out {
         at,
@@ -89,7 +88,7 @@ fn put_figures(figures: [u32; sheet::COUNT], buffer: &mut [u8], out: Out) -> Out
 }
 
 // Puts the bytes of a sheet that was found behind those that wait in the buffer.
-fn put_found(found: Found, buffer: &mut [u8], out: Out) -> Out
+fn put_found(rt: HostRuntime, found: Found, buffer: &mut [u8], out: Out) -> Out
     ensures { FoundPut found buffer.old out buffer.new result }
 {
     let event = found.event;
@@ -97,13 +96,13 @@ fn put_found(found: Found, buffer: &mut [u8], out: Out) -> Out
     let figures = cursor.figures;
     match event {
         Event::Nothing => out,
-        Event::Sheet => put_figures(figures, buffer, out),
+        Event::Sheet => put_figures(rt, figures, buffer, out),
         Event::Fault(_, _) => out,
     }
 }
 
 // Puts the bytes of every sheet of a text, from the beginning of the buffer; they are written as it fills.
-fn put_sheets(text: &[u8], buffer: &mut [u8]) -> Out
+fn put_sheets(rt: HostRuntime, text: &[u8], buffer: &mut [u8]) -> Out
     ensures { SheetsPut (all_of text.now) buffer.old result buffer.new }
 {
     let mut now = texts::begin();
@@ -115,20 +114,20 @@ fn put_sheets(text: &[u8], buffer: &mut [u8]) -> Out
         if is_over(event) {
             return out;
         }
-        out = put_found(found, buffer, out);
+        out = put_found(rt, found, buffer, out);
         now = after;
     }
 }
 
 // The bytes of a text without a fault, the last of them still in the buffer; nothing is written of any other text.
-pub fn type_text(text: &[u8], buffer: &mut [u8]) -> Text
+pub fn type_text(rt: HostRuntime, text: &[u8], buffer: &mut [u8]) -> Text
     requires { sheet_bytes ≤ length buffer.old }
     ensures { TypedOut text.now buffer.old result buffer.new }
 {
-    if tell_faults(text) {
+    if tell_faults(rt, text) {
         return Text::Cut;
     }
-    let out = put_sheets(text, buffer);
+    let out = put_sheets(rt, text, buffer);
     if out.open {
         return Text::Whole(out.at);
     }

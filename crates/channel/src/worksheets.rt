@@ -53,6 +53,7 @@ fn put_text(
 
 // One sheet more.
 fn put_one(
+    rt: HostRuntime,
     pass: Pass,
     steps: LevelSteps,
     name: &[u8],
@@ -66,7 +67,7 @@ fn put_one(
     let most = state.greatest;
     let out = state.out;
     let read = steps.read;
-    let ready = output::made_ready(buffer, out, worksheet::PAGE_BYTES);
+    let ready = output::made_ready(rt, buffer, out, worksheet::PAGE_BYTES);
     let answer = design::design_at(sheet, read);
     let route = route::with_sheet(so_far, answer);
     let greatest = worksheet::with_stretch(most, answer);
@@ -105,6 +106,7 @@ fn at_first(out: Out) -> State
 
 // One sheet more, without a name.
 fn put_unnamed(
+    rt: HostRuntime,
     pass: Pass,
     steps: LevelSteps,
     sheet: &[u8],
@@ -113,18 +115,25 @@ fn put_unnamed(
 ) -> State
     ensures { progress result buffer.new ≡ one_put pass steps [] sheet.now (progress state buffer.old) }
 {
-    put_one(pass, steps, b"", sheet, buffer, state)
+    put_one(rt, pass, steps, b"", sheet, buffer, state)
 }
 
 // The sheets of bytes, which have no names.
-fn put_bytes(pass: Pass, steps: LevelSteps, input: &[u8], buffer: &mut [u8], state: State) -> State
+fn put_bytes(
+    rt: HostRuntime,
+    pass: Pass,
+    steps: LevelSteps,
+    input: &[u8],
+    buffer: &mut [u8],
+    state: State,
+) -> State
     ensures { progress result buffer.new ≡ all_put pass steps (unnamed (sheets_of input.now)) (progress state buffer.old) }
 {
     let mut now = state;
     let mut from: usize = 0;
     while from < input.len() {
         let to = sheets::sheet_end(from, input.len());
-        now = put_unnamed(pass, steps, &input[from..to], &mut *buffer, now);
+        now = put_unnamed(rt, pass, steps, &input[from..to], &mut *buffer, now);
         from = to;
     }
     now
@@ -141,6 +150,7 @@ fn bytes_for(figures: [u32; sheet::COUNT]) -> [u8; texts::SHEET_BYTES]
 
 // A sheet that was found in a text behind a place, with its name.
 fn put_named(
+    rt: HostRuntime,
     pass: Pass,
     steps: LevelSteps,
     text: &[u8],
@@ -155,11 +165,18 @@ fn put_named(
     let start = name.start;
     let end = name.end;
     let bytes = bytes_for(figures);
-    put_one(pass, steps, &text[start..end], &bytes, buffer, state)
+    put_one(rt, pass, steps, &text[start..end], &bytes, buffer, state)
 }
 
 // The sheets of a typed text without a fault, with their names.
-fn put_typed(pass: Pass, steps: LevelSteps, text: &[u8], buffer: &mut [u8], state: State) -> State
+fn put_typed(
+    rt: HostRuntime,
+    pass: Pass,
+    steps: LevelSteps,
+    text: &[u8],
+    buffer: &mut [u8],
+    state: State,
+) -> State
     ensures { progress result buffer.new ≡ all_put pass steps (named_of text.now) (progress state buffer.old) }
 {
     let mut cursor = texts::begin();
@@ -172,16 +189,16 @@ fn put_typed(pass: Pass, steps: LevelSteps, text: &[u8], buffer: &mut [u8], stat
             return now;
         }
         let figures = after.figures;
-        now = put_named(pass, steps, text, cursor.at, figures, &mut *buffer, now);
+        now = put_named(rt, pass, steps, text, cursor.at, figures, &mut *buffer, now);
         cursor = after;
     }
 }
 
 // The head of the route behind the pages.
-fn put_head(buffer: &mut [u8], out: Out) -> Out
+fn put_head(rt: HostRuntime, buffer: &mut [u8], out: Out) -> Out
     ensures { lines_at result buffer.new ≡ head_put (lines_at out buffer.old) }
 {
-    let ready = output::made_ready(buffer, out, worksheet::PAGE_BYTES);
+    let ready = output::made_ready(rt, buffer, out, worksheet::PAGE_BYTES);
     let at = worksheet::put_route_head(buffer, ready.at);
     Out {
         at,
@@ -190,13 +207,13 @@ fn put_head(buffer: &mut [u8], out: Out) -> Out
 }
 
 // The end of the route.
-fn put_foot(counts: Counts, buffer: &mut [u8], state: State) -> Out
+fn put_foot(rt: HostRuntime, counts: Counts, buffer: &mut [u8], state: State) -> Out
     ensures { lines_at result buffer.new ≡ foot_put counts (progress state buffer.old) }
 {
     let out = state.out;
     let route = state.route;
     let greatest = state.greatest;
-    let ready = output::made_ready(buffer, out, worksheet::PAGE_BYTES);
+    let ready = output::made_ready(rt, buffer, out, worksheet::PAGE_BYTES);
     let totals = Totals {
         sheets: route.sheets,
         answered: route.answered,
@@ -223,6 +240,7 @@ pub enum Source {
 
 // All sheets of an input.
 fn put_all(
+    rt: HostRuntime,
     source: Source,
     pass: Pass,
     steps: LevelSteps,
@@ -233,13 +251,14 @@ fn put_all(
     ensures { progress result buffer.new ≡ all_put pass steps (items_of source input.now) (progress state buffer.old) }
 {
     match source {
-        Source::Bytes => put_bytes(pass, steps, input, buffer, state),
-        Source::Typed => put_typed(pass, steps, input, buffer, state),
+        Source::Bytes => put_bytes(rt, pass, steps, input, buffer, state),
+        Source::Typed => put_typed(rt, pass, steps, input, buffer, state),
     }
 }
 
 // The pages of an input's sheets and of their route, written as the buffer fills but for the last of them.
 fn put_worksheets(
+    rt: HostRuntime,
     source: Source,
     steps: LevelSteps,
     counts: Counts,
@@ -250,12 +269,12 @@ fn put_worksheets(
     ensures { WorksheetsOut source steps counts input.now buffer.old result buffer.new }
 {
     let first = at_first(Out { at: 0, open: true });
-    let pages = put_all(source, Pass::Pages, steps, input, buffer, first);
+    let pages = put_all(rt, source, Pass::Pages, steps, input, buffer, first);
     let behind = pages.out;
-    let head = put_head(buffer, behind);
+    let head = put_head(rt, buffer, behind);
     let again = at_first(head);
-    let stretches = put_all(source, Pass::Stretches, steps, input, buffer, again);
-    let last = put_foot(counts, buffer, stretches);
+    let stretches = put_all(rt, source, Pass::Stretches, steps, input, buffer, again);
+    let last = put_foot(rt, counts, buffer, stretches);
     if last.open {
         return Text::Whole(last.at);
     }
@@ -264,6 +283,7 @@ fn put_worksheets(
 
 // The same of a text only where it has no fault; its faults are told.
 fn put_faultless(
+    rt: HostRuntime,
     source: Source,
     steps: LevelSteps,
     counts: Counts,
@@ -274,25 +294,26 @@ fn put_faultless(
     ensures { FaultlessOut source steps counts input.now buffer.old result buffer.new }
 {
     match source {
-        Source::Bytes => put_worksheets(source, steps, counts, input, buffer),
+        Source::Bytes => put_worksheets(rt, source, steps, counts, input, buffer),
         Source::Typed => {
-            if typing::tell_faults(input) {
+            if typing::tell_faults(rt, input) {
                 return Text::Cut;
             }
-            put_worksheets(source, steps, counts, input, buffer)
+            put_worksheets(rt, source, steps, counts, input, buffer)
         }
     }
 }
 
 // The worksheets of an input over the record of levels.bin.
-pub fn over_record(source: Source, input: &[u8], buffer: &mut [u8]) -> Text
+pub fn over_record(rt: HostRuntime, source: Source, input: &[u8], buffer: &mut [u8]) -> Text
     requires { page_bytes ≤ length buffer.old }
     ensures { OverRecord source input.now buffer.old result buffer.new }
 {
     let mut table = [0u32; gauge::SLOTS];
-    let loaded = levels::load(&mut table);
+    let loaded = levels::load(rt, &mut table);
     match loaded {
         Loaded::Counted(counts) => put_faultless(
+            rt,
             source,
             gauge::level_steps(&table),
             counts,

@@ -302,7 +302,7 @@ fn blank_try() -> Try
 }
 
 // The limits of a column in the order of the worksheet, and then where its figure falls.
-#[tactic(auto, using(crate::proofs::walks::Findings::no_entry, crate::proofs::walks::Findings::too_much_silt, crate::proofs::walks::Findings::too_deep))]
+#[tactic(auto, using(crate::proofs::walks::Findings::no_entry, crate::proofs::walks::Findings::too_much_silt))]
 pub fn finding_of(tried: Try) -> Finding
     ensures { result ≡ finding_of tried }
 {

@@ -1,5 +1,6 @@
 // Typed texts: the sheets and the faults of a text, bytes shown as text, and the empty form (definition, section 14).
 #![tactic(auto)]
+
 ghost use Rattle.std.specs.Prelude.{◌≡◌, map, ◌≤◌, length};
 ghost use Rattle.lines.specs.Lines.{place_within, buffer_within};
 ghost use Rattle.texts.specs.Steps.{fault_number};

@@ -1,5 +1,6 @@
 // The typed sheet, line by line: a row for each field, its name, its figure and its unit (definition, section 14.2).
 #![tactic(auto)]
+
 ghost use Rattle.std.specs.Prelude.{◌≡◌};
 ghost use Rattle.lines.specs.Lines.{place_within, buffer_within};
 ghost use Rattle.typed.specs.Lines.{line_bytes, line_text, blank_text, expected_bytes, expected_text};

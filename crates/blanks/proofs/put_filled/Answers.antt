@@ -1,6 +1,5 @@
 -- `blanks::put_filled` meets its contract: where 12 bytes for each of the text's fit, and where they do not.
 use native.Mathlib.Omega.{arith}
-use borrow.Author.Rules.{rules}
 use Rattle.lines.proofs.putting.Fitting.{unfit, fitting, room}
 use Rattle.blanks.proofs.put_filled.Goals as goal
 

@@ -1,11 +1,8 @@
 -- `blanks::put_text` meets its contract. The loop's invariant: the text up to i stands with its blanks filled, and there is room for the rest.
 -- The measure is what is left of the text.
-use Prim.Native.Nat.{◌+◌, ◌*◌, ◌-◌, ◌≤◌}
-use mathlib.Core.Path.{◌≡◌, refl}
+use mathlib.Core.Path.{refl}
 use native.Mathlib.Omega.{arith}
-use borrow.Author.Rules.{rules}
-use lib.ListN.{length}
-use Rattle.blanks.proofs.meaning.Filling.{Filling, none_filled, byte_filled, blank_filled, all_filled}
+use Rattle.blanks.proofs.meaning.Filling.{none_filled, byte_filled, blank_filled, all_filled}
 use Rattle.blanks.proofs.put_text.Goals as goal
 
 pub loop-i-init : goal.loop-i-init

@@ -1,7 +1,6 @@
 -- `blanks::text_fits` meets its contract: no product wraps, since a text that is longer than a twelfth of the buffer does not fit.
 use Prim.Native.Nat.{◌+◌, ◌*◌}
 use native.Mathlib.Omega.{arith}
-use borrow.Author.Rules.{rules}
 use borrow.Author.Tests.{lt-leb}
 use Rattle.blanks.proofs.text_fits.Goals as goal
 

@@ -1,9 +1,7 @@
 -- `texts::name_after` meets its contract. The loop's invariant: the name from here on is the name. The measure is what is left of the text.
-use Prim.Native.Nat.{ℕ, ◌+◌, ◌-◌, ◌≤◌}
-use mathlib.Core.Path.{◌≡◌, ap, sym, ◌∙◌}
+use Prim.Native.Nat.{ℕ, ◌+◌}
+use mathlib.Core.Path.{ap, sym, ◌∙◌}
 use native.Mathlib.Omega.{arith}
-use borrow.Author.Rules.{rules}
-use lib.ListN.{length}
 use Rattle.texts.specs.Names.{span, name_after}
 use Rattle.texts.proofs.meaning.Names.{name_at, name_end_lem, named}
 use Rattle.texts.proofs.name_after.Goals as goal

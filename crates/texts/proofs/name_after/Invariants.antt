@@ -1,11 +1,9 @@
 -- `texts::name_after` meets its contract. The loop's invariant: the name from here on is the name. The measure is what is left of the text.
-use Prim.Native.Nat.{ℕ, ◌+◌, ◌-◌, ◌≤◌}
-use mathlib.Core.Path.{◌≡◌, ap, sym, ◌∙◌}
-use native.Mathlib.Omega.{arith}
-use borrow.Author.Rules.{rules}
+use Prim.Native.Nat.{◌-◌, ◌≤◌}
+use mathlib.Core.Path.{◌≡◌}
 use lib.ListN.{length}
-use Rattle.texts.specs.Names.{span, name_after}
-use Rattle.texts.proofs.meaning.Names.{name_at, name_end_lem, named}
+use Rattle.texts.specs.Names.{name_after}
+use Rattle.texts.proofs.meaning.Names.{name_at}
 use Rattle.texts.proofs.name_after.Given as goal
 
 abbrev pub invariant-loop-at : goal.invariant-loop-at

@@ -1,9 +1,6 @@
 -- `texts::next` meets its contract. The loop's invariant: what is found from here on is what is found. The measure is what is left of the text.
-use Prim.Native.Nat.{◌-◌}
-use mathlib.Core.Path.{◌≡◌, refl, ap, sym, ◌∙◌}
+use mathlib.Core.Path.{refl, ap, sym, ◌∙◌}
 use native.Mathlib.Omega.{arith}
-use borrow.Author.Rules.{rules}
-use lib.ListN.{length}
 use Rattle.texts.specs.Texts.{happened_in, next_of}
 use Rattle.texts.specs.declared.Found.{Found}
 use Rattle.texts.proofs.meaning.Stepping.{next_line, next_end}

@@ -1,5 +1,4 @@
 -- `texts::put_form` meets its contract: where 20,000 bytes fit, and where they do not.
-use borrow.Author.Rules.{rules}
 use Rattle.lines.proofs.putting.Fitting.{room, unfit, fitting}
 use Rattle.texts.specs.Shown.{form_bytes}
 use Rattle.texts.proofs.put_form.Goals as goal

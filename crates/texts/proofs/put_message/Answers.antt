@@ -1,5 +1,4 @@
 -- `texts::put_message` meets its contract: where 1,024 bytes fit, and where they do not.
-use borrow.Author.Rules.{rules}
 use Rattle.lines.proofs.putting.Fitting.{room, unfit, fitting}
 use Rattle.texts.specs.Messages.{message_bytes}
 use Rattle.texts.proofs.put_message.Goals as goal

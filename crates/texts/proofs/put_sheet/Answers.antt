@@ -1,5 +1,4 @@
 -- `texts::put_sheet` meets its contract: where 28 bytes fit, and where they do not.
-use borrow.Author.Rules.{rules}
 use Rattle.lines.proofs.putting.Fitting.{room, unfit, fitting}
 use Rattle.texts.specs.Shown.{sheet_bytes}
 use Rattle.texts.proofs.put_sheet.Goals as goal

@@ -1,5 +1,4 @@
 -- `texts::put_shown` meets its contract: where 4,096 bytes fit, and where they do not.
-use borrow.Author.Rules.{rules}
 use Rattle.lines.proofs.putting.Fitting.{room, unfit, fitting}
 use Rattle.texts.specs.Shown.{shown_bytes}
 use Rattle.texts.proofs.put_shown.Goals as goal

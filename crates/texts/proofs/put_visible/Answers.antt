@@ -1,6 +1,5 @@
 -- `texts::put_visible` meets its contract: where its bytes fit, and where they do not.
 use native.Mathlib.Omega.{arith}
-use borrow.Author.Rules.{rules}
 use lib.ListN.{length}
 use lib.Seq.{take-length}
 use Rattle.lines.proofs.putting.Fitting.{room, unfit, fitting}

@@ -1,5 +1,4 @@
 -- `texts::row_figure` meets its contract: each way out is a case of `row_figure`.
-use borrow.Author.Rules.{rules}
 use borrow.Author.Tests.{lt-ltb, le-ltb, eq-eqb, ne_eqb}
 use Rattle.texts.specs.Shown.{row_figure}
 use Rattle.texts.proofs.row_figure.Goals as goal

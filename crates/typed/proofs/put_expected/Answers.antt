@@ -1,5 +1,4 @@
 -- `typed::put_expected` meets its contract: where 512 bytes fit, and where they do not.
-use borrow.Author.Rules.{rules}
 use Rattle.lines.proofs.putting.Fitting.{room, unfit, fitting}
 use Rattle.typed.specs.Lines.{expected_bytes, expected_text}
 use Rattle.typed.proofs.put_expected.Goals as goal

@@ -1,5 +1,4 @@
 -- `typed::put_line` meets its contract: where 80 bytes fit, and where they do not.
-use borrow.Author.Rules.{rules}
 use Rattle.lines.proofs.putting.Fitting.{room, unfit, fitting}
 use Rattle.typed.specs.Lines.{line_bytes, line_text}
 use Rattle.typed.proofs.put_line.Goals as goal

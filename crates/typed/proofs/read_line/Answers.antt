@@ -1,5 +1,4 @@
 -- `typed::read_line` meets its contract: the row is the one of its number.
-use borrow.Author.Rules.{rules}
 use Rattle.typed.specs.Reading.{entry_of}
 use Rattle.typed.proofs.read_line.Goals as goal
 

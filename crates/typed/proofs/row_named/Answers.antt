@@ -1,11 +1,9 @@
 -- `typed::row_named` meets its contract: it looks at the rows in order. The loop's invariant: the line has the name of no row passed.
 -- The measure is the rows that are left.
 use mathlib.Core.Path.{◌≡◌, sym, ◌∙◌}
-use mathlib.Core.Bool.{false}
-use Prim.Native.Nat.{ℕ, ◌+◌, ◌-◌, ◌<◌, ◌≤◌}
+use Prim.Native.Nat.{◌+◌}
 use native.Mathlib.Omega.{arith}
 use borrow.Author.Count.{below_none, below_more}
-use borrow.Author.Rules.{rules}
 use borrow.Author.Tests.{ne_eqb}
 use Rattle.laws.specs.First.{first_of}
 use Rattle.laws.proofs.First.{first_is, none_is}
@@ -15,7 +13,6 @@ use Rattle.typed.proofs.row_named.Goals as goal
 pub returns-then-has_name : goal.returns-then-has_name
 unfolding row_named named
 returns-then-has_name c =
-    let at = c.before.before.before.before in
     let i = c.loop-i.i in
     let here = sym (rw c.row_at.ensures at c.has_name.ensures) ∙ c.if-has_name.true in
     let first : first_of (named c.args.line.now) 28 ≡ i + 1 =

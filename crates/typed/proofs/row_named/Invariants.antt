@@ -1,19 +1,11 @@
 -- `typed::row_named` meets its contract: it looks at the rows in order. The loop's invariant: the line has the name of no row passed.
 -- The measure is the rows that are left.
-use mathlib.Core.Path.{◌≡◌, sym, ◌∙◌}
+use mathlib.Core.Path.{◌≡◌}
 use mathlib.Core.Bool.{false}
-use Prim.Native.Nat.{ℕ, ◌+◌, ◌-◌, ◌<◌, ◌≤◌}
-use native.Mathlib.Omega.{arith}
-use borrow.Author.Count.{below_none, below_more}
-use borrow.Author.Rules.{rules}
-use borrow.Author.Tests.{ne_eqb}
-use Rattle.laws.specs.First.{first_of}
-use Rattle.laws.proofs.First.{first_is, none_is}
-use Rattle.typed.specs.Reading.{named, row_named}
+use Prim.Native.Nat.{ℕ, ◌-◌, ◌<◌, ◌≤◌}
+use Rattle.typed.specs.Reading.{named}
 use Rattle.typed.proofs.row_named.Given as goal
 
--- `typed::row_named` meets its contract: it looks at the rows in order. The loop's invariant: the line has the name of no row passed.
--- The measure is the rows that are left.
 abbrev pub invariant-loop-i : goal.invariant-loop-i
 invariant-loop-i l = (l.i ≤ 28) × ((k : ℕ) → k < l.i → named l.line k ≡ false)
 

@@ -1,7 +1,6 @@
 -- `blanks::figures::put_blank` meets its contract: a word from the left, every other figure from the right.
-use borrow.Author.Rules.{rules}
 use Rattle.blanks.specs.Blanks.{figure_text, blank_text}
-use Rattle.blanks.proofs.meaning.Columns.{put_first, not_word, at_the_right}
+use Rattle.blanks.proofs.meaning.Columns.{put_first, at_the_right}
 use Rattle.blanks.proofs.figures.put_blank.Goals as goal
 
 pub returns-in-Word : goal.returns-in-Word

@@ -1,6 +1,5 @@
 -- `blanks::figures::put_left` meets its contract: the word, and the spaces that it lacks behind it.
 use native.Mathlib.Omega.{arith}
-use borrow.Author.Rules.{rules}
 use Rattle.blanks.proofs.meaning.Columns.{left_put}
 use Rattle.blanks.proofs.figures.put_left.Goals as goal
 

@@ -1,7 +1,6 @@
 -- `blanks::figures::put_next` meets its contract: nothing where the text or the figures end, else the next figure in its columns.
 use Prim.Native.Nat.{◌+◌}
 use native.Mathlib.Omega.{arith}
-use borrow.Author.Rules.{rules}
 use Rattle.lines.proofs.putting.Placing.{put_none}
 use Rattle.blanks.specs.declared.Figure.TheVariants.{Count}
 use Rattle.blanks.proofs.meaning.Filling.{past_text, past_figures, next_figure}

@@ -1,7 +1,6 @@
 -- `blanks::figures::put_right` meets its contract: the spaces that the bytes lack, and the bytes behind them.
 use mathlib.Core.Path.{sym}
 use native.Mathlib.Omega.{arith}
-use borrow.Author.Rules.{rules}
 use lib.ListN.{length-take}
 use lib.Seq.{length-take-le}
 use Rattle.blanks.proofs.meaning.Columns.{right_put}

@@ -1,7 +1,6 @@
 -- `blanks::figures::put_trimmed` meets its contract: the bytes up to the last that is no space are put.
 use mathlib.Core.Path.{sym}
 use native.Mathlib.Omega.{arith}
-use borrow.Author.Rules.{rules}
 use lib.ListN.{length-take}
 use lib.Seq.{length-take-le}
 use Rattle.blanks.proofs.meaning.Trimming.{first_bytes}

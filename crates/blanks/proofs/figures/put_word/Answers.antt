@@ -1,7 +1,6 @@
 -- `blanks::figures::put_word` meets its contract: nothing past the table, else the word's bytes without the spaces at its end.
 use Prim.Native.Nat.{◌+◌, ◌*◌, ◌-◌}
 use native.Mathlib.Omega.{arith}
-use borrow.Author.Rules.{rules}
 use lib.ListN.{drop, length-take}
 use Rattle.lines.proofs.putting.Placing.{put_none}
 use Rattle.blanks.proofs.meaning.Columns.{no_word, word_part}

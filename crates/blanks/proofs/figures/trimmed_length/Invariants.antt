@@ -1,9 +1,7 @@
 -- `blanks::figures::trimmed_length` meets its contract. The loop's invariant: all behind the bytes left are spaces. The measure is the bytes left.
 use Prim.Native.Nat.{◌≤◌}
-use mathlib.Core.Path.{◌≡◌}
-use native.Mathlib.Omega.{arith}
 use lib.ListN.{length}
-use Rattle.blanks.proofs.meaning.Trimming.{SpacesFrom, none_passed, all_passed, space_passed, stops_at_other}
+use Rattle.blanks.proofs.meaning.Trimming.{SpacesFrom}
 use Rattle.blanks.proofs.figures.trimmed_length.Given as goal
 
 abbrev pub invariant-loop-bytes : goal.invariant-loop-bytes

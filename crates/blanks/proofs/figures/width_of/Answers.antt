@@ -1,6 +1,5 @@
 -- `blanks::figures::width_of` meets its contract: each way out is a case of `width_of`.
 use native.Mathlib.Omega.{arith}
-use borrow.Author.Rules.{rules}
 use borrow.Author.Tests.{lt-ltb, le-ltb}
 use Rattle.blanks.specs.Blanks.{width_of}
 use Rattle.blanks.proofs.figures.width_of.Goals as goal

@@ -1,6 +1,5 @@
 -- `blanks::putting::put` meets its contract: the bytes fit.
 use native.Mathlib.Omega.{arith}
-use borrow.Author.Rules.{rules}
 use Rattle.lines.proofs.Promises.{bytes_put}
 use Rattle.blanks.proofs.putting.put.Goals as goal
 

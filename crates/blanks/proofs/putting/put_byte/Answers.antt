@@ -1,6 +1,5 @@
 -- `blanks::putting::put_byte` meets its contract: the byte stands at its place.
 use native.Mathlib.Omega.{arith}
-use borrow.Author.Rules.{rules}
 use Rattle.lines.proofs.putting.Placing.{put_byte}
 use Rattle.blanks.proofs.putting.put_byte.Goals as goal
 

@@ -1,6 +1,5 @@
 -- `blanks::putting::put_signed` meets its contract: 21 bytes fit.
 use native.Mathlib.Omega.{arith}
-use borrow.Author.Rules.{rules}
 use mir.Facts.{to_z-of_z}
 use Rattle.lines.proofs.Promises.{number_put, number_fits}
 use Rattle.blanks.proofs.putting.put_signed.Goals as goal

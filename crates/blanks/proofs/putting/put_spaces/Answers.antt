@@ -1,7 +1,6 @@
 -- `blanks::putting::put_spaces` meets its contract: the first of 24 spaces are put.
 use mathlib.Core.Path.{sym}
 use native.Mathlib.Omega.{arith}
-use borrow.Author.Rules.{rules}
 use lib.ListN.{length-replicate}
 use Rattle.lines.specs.Lines.{space}
 use Rattle.blanks.proofs.meaning.Columns.{take_spaces}

@@ -1,5 +1,4 @@
 -- `texts::cutting::begins_sheet` meets its contract: a line of five bytes is the word, a longer one begins with it and a space.
-use borrow.Author.Rules.{rules}
 use borrow.Author.Tests.{eq-eqb, ne_eqb}
 use Rattle.texts.specs.Cutting.{begins_sheet}
 use Rattle.texts.proofs.cutting.begins_sheet.Goals as goal

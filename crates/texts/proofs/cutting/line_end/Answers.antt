@@ -1,5 +1,4 @@
 -- `texts::cutting::line_end` meets its contract. The loop's invariant: the bytes passed are of the line. The measure is what is left of the text.
-use Prim.Native.Nat.{◌+◌, ◌-◌, ◌≤◌}
 use mathlib.Core.Path.{◌≡◌, refl}
 use native.Mathlib.Omega.{arith}
 use lib.ListN.{length, drop, drop_of_length-le}

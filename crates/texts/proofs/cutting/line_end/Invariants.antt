@@ -1,10 +1,8 @@
 -- `texts::cutting::line_end` meets its contract. The loop's invariant: the bytes passed are of the line. The measure is what is left of the text.
 use Prim.Native.Nat.{◌+◌, ◌-◌, ◌≤◌}
-use mathlib.Core.Path.{◌≡◌, refl}
-use native.Mathlib.Omega.{arith}
-use lib.ListN.{length, drop, drop_of_length-le}
+use mathlib.Core.Path.{◌≡◌}
+use lib.ListN.{length, drop}
 use Rattle.texts.specs.Cutting.{line_of}
-use Rattle.texts.proofs.cutting.Lines.{line_over, line_on, line_none}
 use Rattle.texts.proofs.cutting.line_end.Given as goal
 
 abbrev pub invariant-loop-at : goal.invariant-loop-at

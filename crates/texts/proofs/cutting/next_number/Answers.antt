@@ -1,5 +1,4 @@
 -- `texts::cutting::next_number` meets its contract: both ways out are cases of `next_number`.
-use borrow.Author.Rules.{rules}
 use borrow.Author.Tests.{lt-ltb, le-ltb}
 use Rattle.texts.specs.Cutting.{next_number}
 use Rattle.texts.proofs.cutting.next_number.Goals as goal

@@ -1,11 +1,7 @@
 -- `texts::cutting::passed_over` meets its contract. The loop's invariant: only blanks were passed. The measure is what is left of the line.
-use Prim.Native.Nat.{◌-◌, ◌≤◌}
-use mathlib.Core.Path.{◌≡◌, refl, sym, ◌∙◌}
+use mathlib.Core.Path.{refl, sym, ◌∙◌}
 use native.Mathlib.Omega.{arith}
-use borrow.Author.Rules.{rules}
-use borrow.Author.Tests.{not-true, not-false}
-use lib.ListN.{length, drop, drop_of_length-le}
-use Rattle.texts.specs.Cutting.{passed_over}
+use lib.ListN.{drop_of_length-le}
 use Rattle.texts.proofs.cutting.Lines.{pass_comment, pass_on, pass_none, pass_blank}
 use Rattle.texts.proofs.cutting.passed_over.Goals as goal
 

@@ -1,12 +1,8 @@
 -- `texts::cutting::passed_over` meets its contract. The loop's invariant: only blanks were passed. The measure is what is left of the line.
 use Prim.Native.Nat.{◌-◌, ◌≤◌}
-use mathlib.Core.Path.{◌≡◌, refl, sym, ◌∙◌}
-use native.Mathlib.Omega.{arith}
-use borrow.Author.Rules.{rules}
-use borrow.Author.Tests.{not-true, not-false}
-use lib.ListN.{length, drop, drop_of_length-le}
+use mathlib.Core.Path.{◌≡◌}
+use lib.ListN.{length, drop}
 use Rattle.texts.specs.Cutting.{passed_over}
-use Rattle.texts.proofs.cutting.Lines.{pass_comment, pass_on, pass_none, pass_blank}
 use Rattle.texts.proofs.cutting.passed_over.Given as goal
 
 abbrev pub invariant-loop-j : goal.invariant-loop-j

@@ -1,16 +1,11 @@
 -- `texts::messages::put_expected` meets its contract: the word of a sheet where none was begun, and else what is expected in the row.
 use mathlib.Core.Path.{◌≡◌, refl}
-use mathlib.Core.List.{[], ◌∷◌}
 use Prim.Native.Nat.{ℕ}
 use native.Mathlib.Omega.{arith}
-use borrow.Author.Rules.{rules}
-use denote.Enum.Declared.{tag_of}
-use types.Run.{OneOf, miss}
 use Rattle.typed.specs.Lines.{expected_text}
 use Rattle.texts.specs.Messages.{expected_for}
 use Rattle.texts.specs.declared.LineFault.{LineFault}
 use Rattle.texts.specs.declared.LineFault.TheVariants.{NoSheet, Missing, NoName, Twice, Misplaced, NoFigure, NoUnit, OutOfRange, Disagrees}
-use Rattle.texts.specs.contracts.LineFault.{the_type}
 use Rattle.texts.proofs.putting.Typed.{expected_stands}
 use Rattle.texts.proofs.messages.put_expected.Goals as goal
 

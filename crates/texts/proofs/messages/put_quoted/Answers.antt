@@ -1,6 +1,5 @@
 -- `texts::messages::put_quoted` meets its contract: a quote, the bytes seen, a quote, and what tells that there are more.
 use native.Mathlib.Omega.{arith}
-use borrow.Author.Rules.{rules}
 use borrow.Author.Tests.{le-leb, lt-leb}
 use Rattle.lines.proofs.putting.Placing.{put_on}
 use Rattle.texts.specs.Messages.{seen, quoted_text}

@@ -1,14 +1,12 @@
 -- `texts::messages::put_seen` meets its contract. The loop's invariant: the bytes passed stand, as they are shown. The measure is those that are left.
-use Prim.Native.Nat.{◌+◌, ◌-◌, ◌≤◌}
+use Prim.Native.Nat.{◌+◌}
 use mathlib.Core.Path.{◌≡◌, refl}
-use mathlib.Core.List.{[], ◌∷◌, ◌++◌, map, map-append}
+use mathlib.Core.List.{[], ◌∷◌, ◌++◌, map-append}
 use native.Mathlib.Numerals.{add-one}
 use native.Mathlib.Nat.{add-zero}
 use native.Mathlib.Omega.{arith}
-use borrow.Author.Rules.{rules}
-use lib.ListN.{length, take, get_or, length-set}
+use lib.ListN.{take, get_or, length-set}
 use lib.Seq.{take-suc}
-use Rattle.lines.specs.Lines.{Put}
 use Rattle.lines.proofs.putting.Placing.{put_none, then_byte}
 use Rattle.texts.specs.Messages.{shown}
 use Rattle.texts.proofs.messages.put_seen.Goals as goal

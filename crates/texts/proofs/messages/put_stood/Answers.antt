@@ -1,6 +1,5 @@
 -- `texts::messages::put_stood` meets its contract: that the text ends, or the line between quotes.
 use native.Mathlib.Omega.{arith}
-use borrow.Author.Rules.{rules}
 use Rattle.texts.specs.Messages.{stood_text}
 use Rattle.texts.proofs.messages.Parts.{same_part}
 use Rattle.texts.proofs.messages.put_stood.Goals as goal

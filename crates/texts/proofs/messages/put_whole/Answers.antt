@@ -1,6 +1,5 @@
 -- `texts::messages::put_whole` meets its contract: the parts of the message, one behind another.
 use native.Mathlib.Omega.{arith}
-use borrow.Author.Rules.{rules}
 use Rattle.lines.proofs.putting.Placing.{put_on}
 use Rattle.texts.specs.Messages.{message_text}
 use Rattle.texts.proofs.messages.put_whole.Goals as goal

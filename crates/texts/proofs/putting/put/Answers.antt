@@ -1,6 +1,5 @@
 -- `texts::putting::put` meets its contract: the bytes fit.
 use native.Mathlib.Omega.{arith}
-use borrow.Author.Rules.{rules}
 use Rattle.lines.proofs.Promises.{bytes_put}
 use Rattle.lines.proofs.putting.Placing.{put_long}
 use Rattle.texts.proofs.putting.put.Goals as goal

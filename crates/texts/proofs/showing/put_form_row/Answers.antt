@@ -1,6 +1,5 @@
 -- `texts::showing::put_form_row` meets its contract: what is expected behind a sign, and the line with a blank, each within its room.
 use native.Mathlib.Omega.{arith}
-use borrow.Author.Rules.{rules}
 use Rattle.lines.proofs.putting.Placing.{put_on}
 use Rattle.texts.specs.Shown.{form_row}
 use Rattle.texts.proofs.putting.Typed.{blank_stands, expected_stands}

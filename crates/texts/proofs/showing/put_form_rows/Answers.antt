@@ -1,14 +1,10 @@
 -- `texts::showing::put_form_rows` meets its contract. The loop's invariant: the rows passed stand behind the head. The measure is the rows that are left.
-use Prim.Native.Nat.{◌+◌, ◌*◌, ◌-◌, ◌≤◌}
-use mathlib.Core.Path.{◌≡◌, refl}
+use mathlib.Core.Path.{refl}
 use mathlib.Core.List.{[]}
 use native.Mathlib.Omega.{arith}
-use borrow.Author.Rules.{rules}
-use lib.ListN.{length}
 use Rattle.lines.proofs.putting.Placing.{put_none, put_on}
-use Rattle.typed.specs.Rows.{count}
 use Rattle.texts.specs.Shown.{form_rows, form_text}
-use Rattle.texts.proofs.showing.Rows.{Rowed, one_rowed, all_rowed}
+use Rattle.texts.proofs.showing.Rows.{one_rowed, all_rowed}
 use Rattle.texts.proofs.showing.put_form_rows.Goals as goal
 
 pub loop-i-init : goal.loop-i-init

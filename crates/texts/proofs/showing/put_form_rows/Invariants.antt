@@ -1,14 +1,10 @@
 -- `texts::showing::put_form_rows` meets its contract. The loop's invariant: the rows passed stand behind the head. The measure is the rows that are left.
 use Prim.Native.Nat.{◌+◌, ◌*◌, ◌-◌, ◌≤◌}
-use mathlib.Core.Path.{◌≡◌, refl}
-use mathlib.Core.List.{[]}
-use native.Mathlib.Omega.{arith}
-use borrow.Author.Rules.{rules}
+use mathlib.Core.Path.{◌≡◌}
 use lib.ListN.{length}
-use Rattle.lines.proofs.putting.Placing.{put_none, put_on}
 use Rattle.typed.specs.Rows.{count}
-use Rattle.texts.specs.Shown.{form_rows, form_text}
-use Rattle.texts.proofs.showing.Rows.{Rowed, one_rowed, all_rowed}
+use Rattle.texts.specs.Shown.{form_rows}
+use Rattle.texts.proofs.showing.Rows.{Rowed}
 use Rattle.texts.proofs.showing.put_form_rows.Given as goal
 
 abbrev pub invariant-loop-i : goal.invariant-loop-i

@@ -1,5 +1,4 @@
 -- `texts::showing::put_read` meets its contract: the rows of a sheet, or the line of bytes that are none.
-use borrow.Author.Rules.{rules}
 use Rattle.texts.proofs.showing.put_read.Goals as goal
 
 pub returns-in-Good : goal.returns-in-Good

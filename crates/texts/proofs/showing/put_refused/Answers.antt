@@ -1,6 +1,5 @@
 -- `texts::showing::put_refused` meets its contract: the word, the number, a space, the field and the newline, one behind another.
 use native.Mathlib.Omega.{arith}
-use borrow.Author.Rules.{rules}
 use Rattle.lines.proofs.putting.Placing.{put_on}
 use Rattle.texts.specs.Shown.{refused_text}
 use Rattle.texts.proofs.showing.put_refused.Goals as goal

@@ -1,6 +1,5 @@
 -- `texts::showing::put_row` meets its contract: the line stands within its room, and a newline behind it.
 use native.Mathlib.Omega.{arith}
-use borrow.Author.Rules.{rules}
 use Rattle.lines.proofs.putting.Placing.{put_on}
 use Rattle.texts.specs.Shown.{row_line}
 use Rattle.texts.proofs.putting.Typed.{line_stands}

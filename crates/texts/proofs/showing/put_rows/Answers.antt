@@ -1,14 +1,10 @@
 -- `texts::showing::put_rows` meets its contract. The loop's invariant: the lines of the rows passed stand. The measure is the rows that are left.
-use Prim.Native.Nat.{◌+◌, ◌*◌, ◌-◌, ◌≤◌}
-use mathlib.Core.Path.{◌≡◌, refl}
+use mathlib.Core.Path.{refl}
 use mathlib.Core.List.{[]}
 use native.Mathlib.Omega.{arith}
-use borrow.Author.Rules.{rules}
-use lib.ListN.{length}
 use Rattle.lines.proofs.putting.Placing.{put_none}
-use Rattle.typed.specs.Rows.{count}
 use Rattle.texts.specs.Shown.{rows_text}
-use Rattle.texts.proofs.showing.Rows.{Rowed, one_rowed, all_rowed}
+use Rattle.texts.proofs.showing.Rows.{one_rowed, all_rowed}
 use Rattle.texts.proofs.showing.put_rows.Goals as goal
 
 pub loop-i-init : goal.loop-i-init

@@ -1,14 +1,10 @@
 -- `texts::showing::put_rows` meets its contract. The loop's invariant: the lines of the rows passed stand. The measure is the rows that are left.
 use Prim.Native.Nat.{◌+◌, ◌*◌, ◌-◌, ◌≤◌}
-use mathlib.Core.Path.{◌≡◌, refl}
-use mathlib.Core.List.{[]}
-use native.Mathlib.Omega.{arith}
-use borrow.Author.Rules.{rules}
+use mathlib.Core.Path.{◌≡◌}
 use lib.ListN.{length}
-use Rattle.lines.proofs.putting.Placing.{put_none}
 use Rattle.typed.specs.Rows.{count}
 use Rattle.texts.specs.Shown.{rows_text}
-use Rattle.texts.proofs.showing.Rows.{Rowed, one_rowed, all_rowed}
+use Rattle.texts.proofs.showing.Rows.{Rowed}
 use Rattle.texts.proofs.showing.put_rows.Given as goal
 
 abbrev pub invariant-loop-i : goal.invariant-loop-i

@@ -1,6 +1,5 @@
 -- `texts::showing::put_sheet` meets its contract: the word, the index, a newline, and what the bytes are read as.
 use native.Mathlib.Omega.{arith}
-use borrow.Author.Rules.{rules}
 use Rattle.lines.proofs.putting.Placing.{put_on}
 use Rattle.texts.specs.Shown.{shown_text}
 use Rattle.texts.proofs.showing.put_sheet.Goals as goal

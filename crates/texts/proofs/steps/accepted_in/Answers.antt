@@ -1,5 +1,4 @@
 -- `texts::steps::accepted_in` meets its contract: each way out is a case of how the figure stands.
-use borrow.Author.Rules.{rules}
 use borrow.Author.Tests.{lt-ltb, le-ltb}
 use Rattle.texts.specs.Steps.{accepted_in}
 use Rattle.texts.proofs.steps.accepted_in.Goals as goal

@@ -1,5 +1,4 @@
 -- `texts::steps::begin_step` meets its contract: the first row follows, and what is missing is told.
-use borrow.Author.Rules.{rules}
 use Rattle.texts.specs.Steps.{begin_step}
 use Rattle.texts.proofs.steps.begin_step.Goals as goal
 

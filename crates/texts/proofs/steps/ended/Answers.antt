@@ -1,5 +1,4 @@
 -- `texts::steps::ended` meets its contract: what is missing is told, on the line behind the last.
-use borrow.Author.Rules.{rules}
 use Rattle.texts.specs.Texts.{ended_at}
 use Rattle.texts.proofs.steps.ended.Goals as goal
 

@@ -1,5 +1,4 @@
 -- `texts::steps::field_of` meets its contract: each way out is a case of `field_of`.
-use borrow.Author.Rules.{rules}
 use borrow.Author.Tests.{lt-ltb, le-ltb}
 use Rattle.texts.specs.Steps.{field_of}
 use Rattle.texts.proofs.steps.field_of.Goals as goal

@@ -1,5 +1,4 @@
 -- `texts::steps::kept_step` meets its contract: a line that begins a sheet, and any other by its stage.
-use borrow.Author.Rules.{rules}
 use Rattle.texts.specs.Steps.{step_of}
 use Rattle.texts.proofs.steps.kept_step.Goals as goal
 

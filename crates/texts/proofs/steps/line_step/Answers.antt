@@ -1,5 +1,4 @@
 -- `texts::steps::line_step` meets its contract: a line that is passed over changes nothing.
-use borrow.Author.Rules.{rules}
 use Rattle.texts.specs.Steps.{line_step}
 use Rattle.texts.proofs.steps.line_step.Goals as goal
 

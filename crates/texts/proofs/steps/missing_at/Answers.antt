@@ -1,5 +1,4 @@
 -- `texts::steps::missing_at` meets its contract: only within a sheet is something missing.
-use borrow.Author.Rules.{rules}
 use Rattle.texts.proofs.steps.missing_at.Goals as goal
 
 pub returns-in-InRow : goal.returns-in-InRow

@@ -1,5 +1,4 @@
 -- `texts::steps::name_fault` meets its contract: each way out is a case of `name_fault`.
-use borrow.Author.Rules.{rules}
 use borrow.Author.Tests.{eq-eqb, ne_eqb, lt-ltb, le-ltb}
 use Rattle.texts.specs.Steps.{name_fault}
 use Rattle.texts.proofs.steps.name_fault.Goals as goal

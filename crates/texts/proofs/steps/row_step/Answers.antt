@@ -1,5 +1,4 @@
 -- `texts::steps::row_step` meets its contract: each arm is a case of what the line says.
-use borrow.Author.Rules.{rules}
 use Rattle.texts.specs.Steps.{row_step}
 use Rattle.texts.proofs.steps.row_step.Goals as goal
 

@@ -1,7 +1,6 @@
 -- `texts::steps::turn` meets its contract: the line up to its end, and what it brings.
 use mathlib.Core.Path.{refl, sym}
 use native.Mathlib.Omega.{arith}
-use borrow.Author.Rules.{rules}
 use lib.Seq.{length-take-le}
 use Rattle.texts.proofs.steps.Turning.{turned}
 use Rattle.texts.proofs.steps.turn.Goals as goal

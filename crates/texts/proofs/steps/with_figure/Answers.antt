@@ -1,5 +1,4 @@
 -- `texts::steps::with_figure` meets its contract: each way out is a case of `stored`.
-use borrow.Author.Rules.{rules}
 use borrow.Author.Tests.{lt-ltb, le-ltb, eq-eqb, ne_eqb}
 use Rattle.texts.specs.Steps.{stored}
 use Rattle.texts.proofs.steps.with_figure.Goals as goal

@@ -1,6 +1,5 @@
 -- `typed::printing::put_behind` meets its contract: nothing where there is no unit, else a space and the unit's token.
 use native.Mathlib.Omega.{arith}
-use borrow.Author.Rules.{rules}
 use lib.ListN.{length-set}
 use Rattle.lines.proofs.putting.Placing.{put_none, byte_then}
 use Rattle.typed.proofs.printing.Units.{behind_none, behind_some}

@@ -1,6 +1,5 @@
 -- `typed::printing::put_blank_row` meets its contract: the name, `_` after it, the unit behind that.
 use native.Mathlib.Omega.{arith}
-use borrow.Author.Rules.{rules}
 use lib.ListN.{length-set}
 use Rattle.lines.proofs.putting.Placing.{put_on, then_byte}
 use Rattle.typed.specs.Lines.{blank_row}

@@ -1,5 +1,4 @@
 -- `typed::printing::put_bytes` meets its contract: the bytes fit.
-use borrow.Author.Rules.{rules}
 use Rattle.lines.proofs.Promises.{bytes_put}
 use Rattle.lines.proofs.putting.Placing.{put_long}
 use Rattle.typed.proofs.printing.put_bytes.Goals as goal

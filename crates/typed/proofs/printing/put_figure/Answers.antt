@@ -1,6 +1,5 @@
 -- `typed::printing::put_figure` meets its contract: an arm for each kind of row.
 use native.Mathlib.Omega.{arith}
-use borrow.Author.Rules.{rules}
 use Rattle.typed.proofs.printing.Figures.{decimal_put, figure_by_lem}
 use Rattle.typed.proofs.printing.put_figure.Goals as goal
 

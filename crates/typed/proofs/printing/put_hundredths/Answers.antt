@@ -1,6 +1,5 @@
 -- `typed::printing::put_hundredths` meets its contract: the count of whole ones, the point, the two digits behind it.
 use native.Mathlib.Omega.{arith}
-use borrow.Author.Rules.{rules}
 use lib.ListN.{length-set}
 use Rattle.typed.proofs.printing.Figures.{decimal_put, hundredths_stand}
 use Rattle.typed.proofs.printing.put_hundredths.Goals as goal

@@ -1,6 +1,5 @@
 -- `typed::printing::put_level` meets its contract: a way out off the record, below 0 and from 0 on.
 use native.Mathlib.Omega.{arith}
-use borrow.Author.Rules.{rules}
 use lib.ListN.{length-set}
 use Rattle.lines.proofs.putting.Placing.{put_on, byte_then}
 use Rattle.typed.proofs.printing.Figures.{decimal_put, level_record, level_below, level_above}

@@ -1,9 +1,7 @@
 -- `typed::printing::put_lines` meets its contract: a way out for words, one for a level and one for the other kinds.
 use native.Mathlib.Omega.{arith}
-use borrow.Author.Rules.{rules}
 use Rattle.lines.proofs.putting.Placing.{put_on}
 use Rattle.typed.proofs.printing.Expected.{lines_by_lem, lines_span}
-use Rattle.typed.proofs.printing.Matched.{not_words, not_level}
 use Rattle.typed.proofs.printing.put_lines.Goals as goal
 
 pub returns-in-Words : goal.returns-in-Words

@@ -1,8 +1,7 @@
 -- `typed::printing::put_name` meets its contract: the name's token, a space after it.
 use mathlib.Core.Path.{◌≡◌}
 use native.Mathlib.Omega.{arith}
-use borrow.Author.Rules.{rules}
-use lib.ListN.{length, length-map}
+use lib.ListN.{length}
 use Rattle.lines.proofs.putting.Placing.{then_byte}
 use Rattle.lines.specs.Lines.{space}
 use Rattle.typed.specs.Lines.{name_text}

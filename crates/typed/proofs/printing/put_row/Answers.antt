@@ -1,6 +1,5 @@
 -- `typed::printing::put_row` meets its contract: the name, the figure behind it, the unit behind that.
 use native.Mathlib.Omega.{arith}
-use borrow.Author.Rules.{rules}
 use Rattle.lines.proofs.putting.Placing.{put_on}
 use Rattle.typed.specs.Lines.{front_text, row_text}
 use Rattle.typed.proofs.printing.put_row.Goals as goal

@@ -1,6 +1,5 @@
 -- `typed::printing::put_span` meets its contract: a line, ` .. ` behind it, the other line behind that.
 use native.Mathlib.Omega.{arith}
-use borrow.Author.Rules.{rules}
 use Rattle.lines.proofs.putting.Placing.{put_on}
 use Rattle.typed.specs.Lines.{span_text}
 use Rattle.typed.proofs.printing.put_span.Goals as goal

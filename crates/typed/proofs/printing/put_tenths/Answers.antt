@@ -1,6 +1,5 @@
 -- `typed::printing::put_tenths` meets its contract: the count of whole ones, the point, the digit behind it.
 use native.Mathlib.Omega.{arith}
-use borrow.Author.Rules.{rules}
 use lib.ListN.{length-set}
 use Rattle.typed.proofs.printing.Figures.{decimal_put, tenths_stand}
 use Rattle.typed.proofs.printing.put_tenths.Goals as goal

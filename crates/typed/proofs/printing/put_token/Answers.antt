@@ -1,10 +1,9 @@
 -- `typed::printing::put_token` meets its contract. The loop's invariant: the bytes passed stand at their place, and none is a space.
 -- The measure is the bytes that are left.
-use Prim.Native.Nat.{◌-◌, ◌≤◌}
-use mathlib.Core.Path.{◌≡◌, refl}
+use mathlib.Core.Path.{refl}
 use native.Mathlib.Omega.{arith}
-use lib.ListN.{length, length-set}
-use Rattle.typed.proofs.printing.Texts.{Copied, none_copied, one_copied, Inside, further_inside, ends_at_space, ends_with_slot}
+use lib.ListN.{length-set}
+use Rattle.typed.proofs.printing.Texts.{none_copied, one_copied, further_inside, ends_at_space, ends_with_slot}
 use Rattle.typed.proofs.printing.put_token.Goals as goal
 
 pub loop-j-init : goal.loop-j-init

@@ -1,11 +1,8 @@
 -- `typed::printing::put_unit` meets its contract: nothing behind a level off the record, else the row's unit.
 use mathlib.Core.Path.{◌≡◌}
-use mathlib.Core.Logic.{⊎_elim}
 use native.Mathlib.Omega.{arith}
-use borrow.Author.Rules.{rules}
 use Rattle.lines.proofs.putting.Placing.{put_none}
 use Rattle.typed.specs.Lines.{unit_text, behind}
-use Rattle.typed.proofs.printing.Matched.{not_level}
 use Rattle.typed.proofs.printing.Units.{record_unit, given_unit, plain_unit}
 use Rattle.typed.proofs.printing.put_unit.Goals as goal
 use Rattle.typed.proofs.printing.put_unit.Goals.{in-Level+else-figure-eq0, in_default}
@@ -21,7 +18,7 @@ returns c =
     let p = c.put_behind.ensures in
     let e : unit_text a.row a.figure ≡ behind a.row.2 =
     elim c.match-kind.branch [
-      in-Level+else-figure-eq0 w ↦ given_unit a.row a.figure w.if-figure-eq0.false
+      | in-Level+else-figure-eq0 w ↦ given_unit a.row a.figure w.if-figure-eq0.false
       | in_default w ↦ plain_unit a.row a.figure w.in_default.not-Level
     ] in
     (rw e p.0, p.1)

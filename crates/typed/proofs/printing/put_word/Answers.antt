@@ -1,6 +1,5 @@
 -- `typed::printing::put_word` meets its contract: nothing past the words, else the token of the word's place.
 use native.Mathlib.Omega.{arith}
-use borrow.Author.Rules.{rules}
 use Rattle.lines.proofs.putting.Placing.{put_none}
 use Rattle.typed.proofs.printing.Figures.{no_word, word_part, word_end}
 use Rattle.typed.proofs.printing.put_word.Goals as goal

@@ -1,10 +1,8 @@
 -- `typed::printing::put_words` meets its contract. The loop's invariant: the lines of the words passed stand, each behind ` | `.
 -- The measure is the words that are left.
-use Prim.Native.Nat.{◌+◌, ◌*◌, ◌-◌, ◌≤◌}
-use mathlib.Core.Path.{◌≡◌, refl}
+use mathlib.Core.Path.{refl}
 use native.Mathlib.Omega.{arith}
-use lib.ListN.{length}
-use Rattle.typed.proofs.printing.Words.{Worded, none_worded, one_worded, space_worded, all_worded}
+use Rattle.typed.proofs.printing.Words.{none_worded, one_worded, space_worded, all_worded}
 use Rattle.typed.proofs.printing.put_words.Goals as goal
 
 pub loop-j-init : goal.loop-j-init

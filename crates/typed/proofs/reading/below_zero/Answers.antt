@@ -1,5 +1,4 @@
 -- `typed::reading::below_zero` meets its contract: the code asks what the definition asks.
-use borrow.Author.Rules.{rules}
 use borrow.Author.Tests.{lt-ltb, le-ltb}
 use Rattle.typed.specs.Reading.{below_zero}
 use Rattle.typed.proofs.reading.below_zero.Goals as goal

@@ -1,6 +1,5 @@
 -- `typed::reading::digit_on` meets its contract: the code asks what the definition asks, and ten times the cap is the bound.
 use native.Mathlib.Omega.{arith}
-use borrow.Author.Rules.{rules}
 use borrow.Author.Tests.{lt-ltb, le-ltb}
 use Rattle.typed.specs.Reading.{digit_on}
 use Rattle.typed.proofs.reading.digit_on.Goals as goal

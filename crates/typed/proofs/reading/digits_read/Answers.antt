@@ -1,12 +1,7 @@
 -- `typed::reading::digits_read` meets its contract. The loop's invariant: the digits that are left, behind the number so far, mean
 -- what all do. The measure is the bytes that are left.
-use mathlib.Core.Path.{◌≡◌, refl, sym, ◌∙◌}
-use Prim.Native.Nat.{◌-◌, ◌<◌}
+use mathlib.Core.Path.{refl, sym, ◌∙◌}
 use native.Mathlib.Omega.{arith}
-use borrow.Author.Rules.{rules}
-use borrow.Author.Tests.{not-true, not-false}
-use lib.ListN.{length, drop}
-use Rattle.typed.specs.Reading.{digits_read}
 use Rattle.typed.proofs.reading.Digits.{digits_end, digits_stop, digits_over, digits_on, at_most_nine}
 use Rattle.typed.proofs.reading.digits_read.Goals as goal
 

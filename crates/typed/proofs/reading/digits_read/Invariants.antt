@@ -1,17 +1,11 @@
 -- `typed::reading::digits_read` meets its contract. The loop's invariant: the digits that are left, behind the number so far, mean
 -- what all do. The measure is the bytes that are left.
-use mathlib.Core.Path.{◌≡◌, refl, sym, ◌∙◌}
+use mathlib.Core.Path.{◌≡◌}
 use Prim.Native.Nat.{◌-◌, ◌<◌}
-use native.Mathlib.Omega.{arith}
-use borrow.Author.Rules.{rules}
-use borrow.Author.Tests.{not-true, not-false}
 use lib.ListN.{length, drop}
 use Rattle.typed.specs.Reading.{digits_read}
-use Rattle.typed.proofs.reading.Digits.{digits_end, digits_stop, digits_over, digits_on, at_most_nine}
 use Rattle.typed.proofs.reading.digits_read.Given as goal
 
--- `typed::reading::digits_read` meets its contract. The loop's invariant: the digits that are left, behind the number so far, mean
--- what all do. The measure is the bytes that are left.
 abbrev pub invariant-loop-at : goal.invariant-loop-at
 invariant-loop-at l = (digits_read l.value (drop l.at l.bytes) ≡ digits_read 0 (drop l.from l.bytes)) × (l.value < 1000000000)
 

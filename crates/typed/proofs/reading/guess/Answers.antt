@@ -3,10 +3,9 @@ use mathlib.Core.Path.{◌≡◌, refl, ◌∙◌}
 use mathlib.Core.List.{List}
 use mathlib.Core.Logic.{◌⊎◌, inl, inr}
 use Prim.Native.Nat.{ℕ}
-use borrow.Author.Rules.{rules}
 use Rattle.typed.specs.Reading.{digits_read, guess_by, guessed}
 use Rattle.typed.specs.declared.Kind.{Kind}
-use Rattle.typed.specs.declared.Kind.TheVariants.{Whole, Tenths, Hundredths, Words, Level}
+use Rattle.typed.specs.declared.Kind.TheVariants.{Whole, Tenths, Hundredths}
 use Rattle.typed.proofs.reading.guess.Goals as goal
 
 -- the first three kinds have a number

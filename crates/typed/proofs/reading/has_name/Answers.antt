@@ -1,6 +1,5 @@
 -- `typed::reading::has_name` meets its contract: what is put at the front of the array is the name.
 use native.Mathlib.Omega.{arith}
-use borrow.Author.Rules.{rules}
 use Rattle.typed.proofs.reading.Printed.{front_is}
 use Rattle.typed.proofs.reading.has_name.Goals as goal
 

@@ -1,7 +1,5 @@
 -- `typed::reading::level_guess` meets its contract: the code asks what the definition asks, of the same two texts.
 use mathlib.Core.Path.{sym, ◌∙◌}
-use borrow.Author.Rules.{rules}
-use borrow.Author.Tests.{not-true, not-false}
 use Rattle.typed.specs.Reading.{level_guess}
 use Rattle.typed.proofs.reading.level_guess.Goals as goal
 

@@ -1,7 +1,5 @@
 -- `typed::reading::read_row` meets its contract: what is printed, up to where it is printed, is what the definition compares.
 use native.Mathlib.Omega.{arith}
-use borrow.Author.Rules.{rules}
-use borrow.Author.Tests.{not-true, not-false}
 use Rattle.typed.proofs.reading.Printed.{no_name, name_within, no_figure, no_unit, figure_read}
 use Rattle.typed.proofs.reading.read_row.Goals as goal
 

@@ -1,5 +1,4 @@
 -- `typed::reading::whole_stands` meets its contract: the code asks what the definition asks.
-use borrow.Author.Rules.{rules}
 use borrow.Author.Tests.{eq-eqb, ne_eqb}
 use Rattle.typed.specs.Reading.{same}
 use Rattle.typed.proofs.reading.whole_stands.Goals as goal

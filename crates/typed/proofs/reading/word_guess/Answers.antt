@@ -1,12 +1,10 @@
 -- `typed::reading::word_guess` meets its contract: it looks at the words in order. The loop's invariant: no word passed stands there.
 -- The measure is the words that are left.
-use mathlib.Core.Path.{◌≡◌, sym, ◌∙◌}
-use mathlib.Core.Bool.{false}
-use Prim.Native.Nat.{ℕ, ◌-◌, ◌<◌, ◌≤◌}
+use mathlib.Core.Path.{sym, ◌∙◌}
 use native.Mathlib.Omega.{arith}
 use borrow.Author.Count.{below_none, below_more}
 use Rattle.laws.proofs.First.{first_is, none_is}
-use Rattle.typed.specs.Reading.{word_stands, word_guess}
+use Rattle.typed.specs.Reading.{word_guess}
 use Rattle.typed.proofs.reading.word_guess.Goals as goal
 
 pub returns-then-word_stands : goal.returns-then-word_stands

@@ -1,16 +1,11 @@
 -- `typed::reading::word_guess` meets its contract: it looks at the words in order. The loop's invariant: no word passed stands there.
 -- The measure is the words that are left.
-use mathlib.Core.Path.{◌≡◌, sym, ◌∙◌}
+use mathlib.Core.Path.{◌≡◌}
 use mathlib.Core.Bool.{false}
 use Prim.Native.Nat.{ℕ, ◌-◌, ◌<◌, ◌≤◌}
-use native.Mathlib.Omega.{arith}
-use borrow.Author.Count.{below_none, below_more}
-use Rattle.laws.proofs.First.{first_is, none_is}
-use Rattle.typed.specs.Reading.{word_stands, word_guess}
+use Rattle.typed.specs.Reading.{word_stands}
 use Rattle.typed.proofs.reading.word_guess.Given as goal
 
--- `typed::reading::word_guess` meets its contract: it looks at the words in order. The loop's invariant: no word passed stands there.
--- The measure is the words that are left.
 abbrev pub invariant-loop-j : goal.invariant-loop-j
 invariant-loop-j l = (l.j ≤ 6) × ((k : ℕ) → k < l.j → word_stands l.words l.bytes k ≡ false)
 

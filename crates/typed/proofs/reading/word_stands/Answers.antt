@@ -1,6 +1,5 @@
 -- `typed::reading::word_stands` meets its contract: what is put at the front of the array is the word.
 use native.Mathlib.Omega.{arith}
-use borrow.Author.Rules.{rules}
 use Rattle.typed.proofs.reading.Printed.{no_word, word_by}
 use Rattle.typed.proofs.reading.word_stands.Goals as goal
 

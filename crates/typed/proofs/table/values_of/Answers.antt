@@ -1,7 +1,6 @@
 -- `typed::table::values_of` meets its contract: a way out before the level's row, at it, behind it and past the rows.
 use mathlib.Core.Path.{◌∙◌}
 use native.Mathlib.Omega.{arith}
-use borrow.Author.Rules.{rules}
 use Rattle.typed.proofs.table.Values.{before_level, at_level, behind_level, past_rows}
 use Rattle.typed.proofs.table.values_of.Goals as goal
 

@@ -1,0 +1,29 @@
+-- One sheet more is put, and at the end none is left.
+use mathlib.Core.Path.{sym, ◌∙◌}
+use Rattle.channel.specs.Worksheets.{progress}
+use Rattle.channel.proofs.Bundles.{named_more, none_named, all_named}
+use Rattle.channel.proofs.Faults.{fewer_left}
+use Rattle.channel.proofs.worksheets.put_typed.Goals as goal
+
+pub loop-rt-init : goal.loop-rt-init
+loop-rt-init c =
+    let a = c.args in
+    all_named a.pass a.steps a.text.now _ (progress a.state a.buffer.now) c.begin-cursor.ensures
+
+pub returns-then-is_over : goal.returns-then-is_over
+returns-then-is_over c =
+    let l = c.loop-rt in
+    let a = c.args in
+    none_named a.pass a.steps a.text.now l.cursor c.next-found.result c.next-found.ensures (progress l.now l.buffer) (sym c.is_over.ensures ∙ c.if-is_over.true)
+    ∙ l.invariant
+
+pub loop-rt-smaller : goal.loop-rt-smaller
+loop-rt-smaller c = fewer_left c.args.text.now c.loop-rt.cursor c.next-found.result c.next-found.ensures (sym c.is_over.ensures ∙ c.if-is_over.false)
+
+pub loop-rt-preserved : goal.loop-rt-preserved
+loop-rt-preserved c =
+    let l = c.loop-rt in
+    let a = c.args in
+    named_more a.pass a.steps a.text.now l.cursor c.next-found.result c.next-found.ensures (progress l.now l.buffer) _
+    (sym c.is_over.ensures ∙ c.if-is_over.false) c.put_named-now.ensures
+    ∙ l.invariant
