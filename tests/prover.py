@@ -18,7 +18,7 @@ def write(file, text):
 def crates():
     """The crates in their order, each with those that it stands on."""
     lines = [line.split("#")[0].split(":") for line in read("crates.txt").splitlines()]
-    return {line[0].strip(): line[1].split() for line in lines if len(line) == 2}
+    return {line[0].split()[0]: line[1].split() for line in lines if len(line) == 2}
 
 
 def edits():
