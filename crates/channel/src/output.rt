@@ -1,10 +1,11 @@
 // The buffer in which lines wait, and its writing to standard output.
-ghost use Rattle.std.specs.Prelude.{◌≡◌};
+ghost use Rattle.std.specs.Prelude.{◌≡◌, ◌↔◌, ◌⊎◌, IsTrue, Some, pos};
+ghost use Rattle.std.specs.IoError.{error_kind, raw_os_error};
 ghost use Rattle.channel.specs.Output.{place_for};
 
 use std::alloc::{AllocError, Global};
 use std::io;
-use std::io::Print;
+use std::io::{ErrorKind, Print};
 
 // The number of the system's error where a descriptor is closed.
 const BAD_DESCRIPTOR: i32 = 9;
@@ -48,13 +49,15 @@ pub fn write_first<P: Print>(output: &P, buffer: &[u8], count: usize) -> io::Res
     if count <= buffer.len() {
         output.write_all(&buffer[..count])
     } else {
-        Err(io::Error::from(io::ErrorKind::InvalidInput))
+        Err(io::Error::from(ErrorKind::InvalidInput))
     }
 }
 
 // Whether an output takes no more because it is closed, or nobody reads it.
-fn is_closed(error: io::Error) -> bool {
-    error.kind() == io::ErrorKind::BrokenPipe || error.raw_os_error() == Some(BAD_DESCRIPTOR)
+fn is_closed(error: io::Error) -> bool
+    ensures { IsTrue result ↔ ((error_kind error ≡ ErrorKind.BrokenPipe) ⊎ (raw_os_error error ≡ Some (pos 9))) }
+{
+    error.kind() == ErrorKind::BrokenPipe || error.raw_os_error() == Some(BAD_DESCRIPTOR)
 }
 
 // Writes the buffer's first bytes to standard output; false where that takes no more. What is wrong with it is told; a closed one is left quietly.
