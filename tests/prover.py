@@ -141,9 +141,9 @@ STEP_LOST = re.compile("no occurrence of the path|has no `|has no field|that can
 
 def errors(output):
     """The errors in their order, each by its file, its line and its words, which the prover may break over lines that begin with spaces;
-    behind them what it says of the code. That a citing proof is not admitted is no reason."""
+    behind them what it says of the code. That a citing proof is not admitted, or not checked, is no reason."""
     output = re.sub(r"\n +", " ", output)
-    found = re.findall(r"^(?:\./)?(\S*?):(\d+):\d+: (error(?!.*was not admitted).*)$", output, re.M)
+    found = re.findall(r"^(?:\./)?(\S*?):(\d+):\d+: (error(?!.*was not admitted|.*declarations? that depends? on).*)$", output, re.M)
     found += re.findall(r"^note: (?:\./)?(\S*?):(\d+):\d+: (.*)$", output, re.M)
     return [f"{file}:{line}: {re.sub('^error: ', '', words)[:300]}" for file, line, words in found]
 
