@@ -1,4 +1,5 @@
 -- The ways out of comparing two depths, and of a sheet that came to its depth or did not.
+use Rattle.std.specs.Prelude.{Result}
 use mathlib.Core.Path.{◌≡◌}
 use mathlib.Core.Bool.{true, false}
 use mathlib.Core.List.{List}
@@ -8,9 +9,11 @@ use borrow.Author.Tests.{eq-eqb, ne_eqb}
 use lib.ListN.{get_or}
 use Rattle.laws.specs.Choice.{◌=ᵇ◌}
 use Rattle.sheet.specs.Sheets.{read_of}
-use Rattle.gauge.specs.declared.LevelRead.{LevelRead}
-use Rattle.design.specs.declared.Answer.{Answer}
 use Rattle.both.specs.Both.{came_to, same_numbers, not_come, by_reading, beside}
+use Rattle.design.specs.declared.Reason.{Reason}
+use Rattle.datum.specs.declared.Level.{Level}
+use Rattle.design.specs.declared.Figures.{Figures}
+use Rattle.gauge.specs.declared.LevelFault.{LevelFault}
 
 module _ (worked plain : List ℕ) where
   pub other_refusal : get_or worked 0 0 ≢ get_or plain 0 0 → false ≡ same_numbers worked plain
@@ -26,7 +29,7 @@ module _ (worked plain : List ℕ) where
     unfolding same_numbers
     by_the_cut h = rw (eq-eqb _ _ refusal, eq-eqb _ _ h)
 
-module _ (bytes : List ℕ) (read : LevelRead) (answer : Answer) where
+module _ (bytes : List ℕ) (read : Result Level LevelFault) (answer : Result Figures Reason) where
   pub refused_before : came_to answer ≡ false → not_come answer ≡ beside bytes read answer
   refused_before e = rw e
 

@@ -4,11 +4,12 @@
 ghost use Rattle.std.specs.Prelude.{◌≡◌};
 ghost use Rattle.both.specs.Both.{reason_came, came_to, uncounted, same_numbers, verdict_of, not_come, of_stretch, by_level, by_reading, both_of};
 
-use depth::Depth;
-use design::{Answer, Reason};
-use engine::{PLAIN_COUNT, PlainDepth, PlainFigures};
-use gauge::LevelRead;
-use sheet::{Sheet, SheetRead};
+use design::{Figures, Reason};
+use engine::{PLAIN_COUNT, PlainFigures};
+use sheet::{ReadFault, Sheet};
+use datum::Level;
+use depth::{DepthFault, DepthFigures};
+use gauge::LevelFault;
 
 // What the two engines come to on a sheet: it is refused before its depth, or they agree, or they differ.
 #[derive(Clone, Copy)]
@@ -21,18 +22,18 @@ pub enum Verdict {
 // The answer of a sheet; beside it the plain engine's refusal, sailing depth and cut, all 0 where the sheet is refused before its depth.
 #[derive(Clone, Copy)]
 pub struct Both {
-    pub answer: Answer,
+    pub answer: Result<Figures, Reason>,
     pub plain: [u64; PLAIN_COUNT],
     pub verdict: Verdict,
 }
 
 // Whether a sheet came to its depth: it is answered, or refused for its depth or for its speed, which is checked behind it.
-fn came_to(answer: Answer) -> bool
+fn came_to(answer: Result<Figures, Reason>) -> bool
     ensures { result ≡ came_to answer }
 {
     match answer {
-        Answer::Answered(_) => true,
-        Answer::Refused(reason) => reason_came(reason),
+        Ok(_) => true,
+        Err(reason) => reason_came(reason),
     }
 }
 
@@ -72,7 +73,7 @@ fn verdict_of(worked: [u64; PLAIN_COUNT], plain: [u64; PLAIN_COUNT]) -> Verdict
 }
 
 // An answer with nothing of the plain engine: of a sheet that is refused before its depth, or where that engine is not asked.
-pub fn not_come(answer: Answer) -> Both
+pub fn not_come(answer: Result<Figures, Reason>) -> Both
     ensures { result ≡ not_come answer }
 {
     Both {
@@ -83,21 +84,21 @@ pub fn not_come(answer: Answer) -> Both
 }
 
 // The worksheet's depth, without its count of columns.
-fn uncounted_of(depth: Depth) -> PlainDepth
+fn uncounted_of(depth: Result<DepthFigures, DepthFault>) -> Result<PlainFigures, DepthFault>
     ensures { result ≡ uncounted depth }
 {
     match depth {
-        Depth::Cut(figures) => {
+        Ok(figures) => {
             let cut = figures.cut;
             let sailing = figures.sailing;
-            PlainDepth::Met(PlainFigures { cut, sailing })
+            Ok(PlainFigures { cut, sailing })
         }
-        Depth::NoCut(fault) => PlainDepth::Unmet(fault),
+        Err(fault) => Err(fault),
     }
 }
 
 // The two engines on the stretch of a sheet.
-fn of_stretch(answer: Answer, stretch: depth::Stretch) -> Both
+fn of_stretch(answer: Result<Figures, Reason>, stretch: depth::Stretch) -> Both
     ensures { result ≡ of_stretch answer stretch }
 {
     let worked = engine::plain_numbers(uncounted_of(depth::work_depth(stretch)));
@@ -110,32 +111,32 @@ fn of_stretch(answer: Answer, stretch: depth::Stretch) -> Both
     }
 }
 
-fn by_level(answer: Answer, sheet: Sheet, level: LevelRead) -> Both
+fn by_level(answer: Result<Figures, Reason>, sheet: Sheet, level: Result<Level, LevelFault>) -> Both
     ensures { result ≡ by_level answer sheet level }
 {
     match level {
-        LevelRead::Found(found) => {
+        Ok(found) => {
             let lanes = lanes::lane_rule(sheet.lanes, sheet.channel, sheet.ships, sheet.speed);
             of_stretch(answer, design::working::depth_stretch(sheet, found, lanes))
         }
-        LevelRead::NoLevel(_) => not_come(answer),
+        Err(_) => not_come(answer),
     }
 }
 
-fn by_reading(answer: Answer, reading: SheetRead, level: LevelRead) -> Both
+fn by_reading(answer: Result<Figures, Reason>, reading: Result<Sheet, ReadFault>, level: Result<Level, LevelFault>) -> Both
     ensures { result ≡ by_reading answer reading level }
 {
     match reading {
-        SheetRead::Good(sheet) => {
+        Ok(sheet) => {
             let source = sheet.level;
             by_level(answer, sheet, design::working::level_for(source, level))
         }
-        SheetRead::NoSheet(_) => not_come(answer),
+        Err(_) => not_come(answer),
     }
 }
 
 // The design of a sheet at a level that is already read off the table, and the plain engine beside it.
-pub fn design_both(bytes: &[u8], level: LevelRead) -> Both
+pub fn design_both(bytes: &[u8], level: Result<Level, LevelFault>) -> Both
     ensures { result ≡ both_of bytes.now level }
 {
     let answer = design::design_at(bytes, level);

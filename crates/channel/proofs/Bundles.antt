@@ -1,12 +1,12 @@
 -- Sheets with their names, one after another: of bytes by the law of sheets taken, of a text by what is found; and what was written and what stands
 -- is the text of the worksheets, by the law of lines in a buffer.
+use Rattle.std.specs.Prelude.{Option, Some, None, Result}
 use mathlib.Core.Path.{◌≡◌, refl, sym, ap, ap₂, subst, ◌∙◌}
 use mathlib.Core.Bool.{false, true}
 use mathlib.Core.List.{List, [], ◌∷◌, ◌++◌}
 use Prim.Native.Nat.{ℕ, ◌≤◌}
 use lib.ListN.{length}
 use Rattle.design.specs.Design.{design_at}
-use Rattle.design.specs.declared.Answer.{Answer}
 use Rattle.gauge.specs.Table.{empty_table}
 use Rattle.gauge.specs.Designing.{level_steps}
 use Rattle.gauge.specs.declared.LevelSteps.{LevelSteps}
@@ -26,8 +26,6 @@ use Rattle.channel.specs.Printing.{file_block, FileAdded}
 use Rattle.channel.specs.Text.{record_table, record_counts}
 use Rattle.channel.specs.Typing.{is_over, any_fault, lines_at}
 use Rattle.channel.specs.Worksheets.{Named, unnamed, name_of, bytes_for, named_from, named_of, text_by, Progress, progress, at_first, one_put, all_put, texts_of, route_of, greatest_of, head_put, foot_of, foot_put, worksheet_lines, worksheets_text, WorksheetsOut, Accepted, FaultlessOut, OverRecord}
-use Rattle.channel.specs.declared.Text.{Text}
-use Rattle.channel.specs.declared.Text.TheVariants.{Whole, Cut}
 use Rattle.channel.specs.declared.output.Out.{Out}
 use Rattle.channel.specs.declared.route.Route.{Route}
 use Rattle.channel.specs.declared.worksheets.Pass.{Pass}
@@ -39,10 +37,12 @@ use Rattle.channel.proofs.Blocks.{brought}
 use Rattle.channel.proofs.Faults.{one_found, none_found, all_left, none_told_exactly}
 use Rattle.channel.proofs.Lines.{all_lines, lines_in_two}
 use Rattle.channel.proofs.Taking.{Putting}
+use Rattle.design.specs.declared.Reason.{Reason}
+use Rattle.design.specs.declared.Figures.{Figures}
 
 module _ (pass : Pass) (steps : LevelSteps) where
   -- one sheet, from its parts
-  pub one_more : (name sheet : List ℕ) (p : Progress) (answer : Answer) (route : Route) (greatest : Greatest) (at after : ℕ) (later : List ℕ)
+  pub one_more : (name sheet : List ℕ) (p : Progress) (answer : Result Figures Reason) (route : Route) (greatest : Greatest) (at after : ℕ) (later : List ℕ)
       → answer ≡ design_at sheet steps.read → route ≡ with_sheet p.route answer → greatest ≡ with_stretch p.greatest answer
       → at ≡ place_for page_bytes p.lines.buffer p.lines.at
       → after ≡ place_within page_bytes (text_by pass steps route.sheets name sheet answer) at p.lines.buffer
@@ -133,19 +133,19 @@ module _ (steps : LevelSteps) (counts : Counts) (items : List Named) where
 
 -- of an input that is accepted, and over a record
 module _ (source : Source) (input buffer later : List ℕ) where
-  pub accepted : (steps : LevelSteps) (counts : Counts) (text : Text) → Accepted source input → WorksheetsOut source steps counts input buffer text later
+  pub accepted : (steps : LevelSteps) (counts : Counts) (text : Option ℕ) → Accepted source input → WorksheetsOut source steps counts input buffer text later
       → FaultlessOut source steps counts input buffer text later
-  accepted steps counts (Whole rest) a out = (a, out)
-  accepted steps counts Cut a out = tt
+  accepted steps counts (Some rest) a out = (a, out)
+  accepted steps counts None a out = tt
 
-  pub over_file : (table : List ℕ) (steps : LevelSteps) (counts : Counts) (text : Text) → ToItsEnd file_block (FileAdded empty_table counts table)
+  pub over_file : (table : List ℕ) (steps : LevelSteps) (counts : Counts) (text : Option ℕ) → ToItsEnd file_block (FileAdded empty_table counts table)
       → steps ≡ level_steps table → FaultlessOut source steps counts input buffer text later → OverRecord source input buffer text later
-  over_file table steps counts Cut read e out = tt
-  over_file table steps counts (Whole rest) read e out =
+  over_file table steps counts None read e out = tt
+  over_file table steps counts (Some rest) read e out =
       brought file_block (FileAdded empty_table counts table)
-      (λ (file : List ℕ). FaultlessOut source (level_steps (record_table file)) (record_counts file) input buffer (Whole rest) later)
-      (λ file f. subst (λ (st : LevelSteps). FaultlessOut source st (record_counts file) input buffer (Whole rest) later) (e ∙ ap level_steps f.added)
-      (subst (λ (ct : Counts). FaultlessOut source steps ct input buffer (Whole rest) later) f.counted out))
+      (λ (file : List ℕ). FaultlessOut source (level_steps (record_table file)) (record_counts file) input buffer (Some rest) later)
+      (λ file f. subst (λ (st : LevelSteps). FaultlessOut source st (record_counts file) input buffer (Some rest) later) (e ∙ ap level_steps f.added)
+      (subst (λ (ct : Counts). FaultlessOut source steps ct input buffer (Some rest) later) f.counted out))
       read
 
 -- a typed text in which no fault was told

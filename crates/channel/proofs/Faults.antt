@@ -1,5 +1,6 @@
 -- A text that is typed, step by step: whether a fault is among what was found, and the bytes of the sheets that were.
 -- What is left after a step is the rest of what was left before it.
+use Rattle.std.specs.Prelude.{Some}
 use mathlib.Core.Path.{◌≡◌, refl, sym, ap, ◌∙◌}
 use mathlib.Core.Bool.{Bool, true, false}
 use mathlib.Core.List.{List, [], ◌∷◌, ◌++◌, map, map-append}
@@ -20,7 +21,6 @@ use Rattle.texts.specs.declared.Found.{Found}
 use Rattle.texts.proofs.Promises.{all_from_its_beginning, next_is_first, nothing_is_last}
 use Rattle.channel.specs.Output.{Lines, standing, place_for, with_line, with_lines, written}
 use Rattle.channel.specs.Typing.{is_over, is_fault, any_fault, bytes_of_sheets, TypedOut}
-use Rattle.channel.specs.declared.Text.TheVariants.{Whole}
 use Rattle.channel.proofs.Lines.{line_put, all_lines, lines_in_two}
 
 -- so many zeros, stated of any number: the great one of the longest text must not be computed
@@ -132,7 +132,7 @@ none_told_exactly text = (no_fault (all_of text), none_told (all_of text))
 -- what was written and what stands are the bytes of a text without a fault
 pub bytes_out : (text buffer later : List ℕ) (rest : ℕ) → sheet_bytes ≤ length buffer → any_fault (all_of text) ≡ false
     → ◌≡◌ {A = Lines} (record { at = rest; buffer = later }) (with_lines sheet_bytes (bytes_of_sheets (all_of text)) (record { at = 0; buffer = buffer }))
-    → TypedOut text buffer (Whole rest) later
+    → TypedOut text buffer (Some rest) later
 unfolding typed_bytes
 bytes_out text buffer later rest space none put =
     let first : Lines = record { at = 0; buffer = buffer } in

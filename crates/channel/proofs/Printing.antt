@@ -1,9 +1,9 @@
 -- Sheets printed: one, and in two parts. By the list of sheets.
+use Rattle.std.specs.Prelude.{Result}
 use mathlib.Core.Path.{◌≡◌, refl, ap}
 use mathlib.Core.List.{List, [], ◌∷◌, ◌++◌}
 use Prim.Native.Nat.{ℕ}
 use lib.IntN.{ℤ}
-use Rattle.gauge.specs.declared.LevelRead.{LevelRead}
 use Rattle.design.specs.Design.{design_at}
 use Rattle.design.specs.Numbers.{numbers_of}
 use Rattle.both.specs.declared.Both.{Both as TwoEngines}
@@ -19,9 +19,11 @@ use Rattle.channel.specs.Printing.{input_block, worked_in, Progress, at_first, s
 use Rattle.channel.specs.declared.route.Route.{Route}
 use Rattle.channel.proofs.Lines.{lines_in_two}
 use Rattle.channel.proofs.Taking.{Putting, begun}
+use Rattle.datum.specs.declared.Level.{Level}
+use Rattle.gauge.specs.declared.LevelFault.{LevelFault}
 
 -- a sheet's line, from what is worked to the buffer
-pub line_printed : (form : Form) (level : LevelRead) (sheet : List ℕ) (p : Progress) (at : ℕ) (worked : TwoEngines) (route : Route)
+pub line_printed : (form : Form) (level : Result Level LevelFault) (sheet : List ℕ) (p : Progress) (at : ℕ) (worked : TwoEngines) (route : Route)
     (numbers : List ℤ) (after : ℕ) (later : List ℕ) (agreed : ℕ) → at ≡ place_for line_bytes p.lines.buffer p.lines.at → worked ≡ worked_in form sheet level
     → route ≡ with_sheet p.route worked.answer → numbers ≡ numbers_of worked.answer
     → after ≡ place_after (line_in form route.sheets numbers worked.plain) at p.lines.buffer
@@ -31,13 +33,13 @@ unfolding sheets_printed route_after sheet_lines agreed_after with_lines with_li
 line_printed Alone level sheet p at worked route numbers after later agreed a b c d e f g = rw (g, f, e, d, c, b, a)
 line_printed Both level sheet p at worked route numbers after later agreed a b c d e f g = rw (g, f, e, d, c, b, a, same_answer sheet level)
 
-module _ (level : LevelRead) where
+module _ (level : Result Level LevelFault) where
   route_in_two : (first second : List (List ℕ)) (route : Route) → route_after level route (first ++ second) ≡ route_after level (route_after level route first) second
   unfolding route_after
   route_in_two [] second route = refl
   route_in_two (sheet ∷ first) second route = route_in_two first second (with_sheet route (design_at sheet level))
 
-module _ (form : Form) (level : LevelRead) where
+module _ (form : Form) (level : Result Level LevelFault) where
   agreed_in_two : (first second : List (List ℕ)) (agreed : ℕ) → agreed_after form level agreed (first ++ second) ≡ agreed_after form level (agreed_after form level agreed first) second
   unfolding agreed_after
   agreed_in_two [] second agreed = refl

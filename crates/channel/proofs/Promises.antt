@@ -1,5 +1,6 @@
 -- What the program promises, printing (section 10), showing (14.5), typing (14.3) and its worksheets (15). `TextPrinted` of specs/Printing.antt is what `print` ensures,
 -- `TextShown` of specs/Showing.antt what `show` does, `TypedOut` of specs/Typing.antt what `type_text` does, and `main` writes the rest that they leave; `printed` of specs/Text.antt and `shown` are the texts.
+use Rattle.std.specs.Prelude.{Some, Result}
 use mathlib.Core.Path.{◌≡◌, ap, ◌∙◌}
 use mathlib.Core.List.{List, [], ◌∷◌, ◌++◌, map, flatten}
 use mathlib.Core.Bool.{false}
@@ -12,7 +13,6 @@ use Rattle.laws.specs.Rounding.{up}
 use Rattle.sheet.specs.CaseS.{sheet_s}
 use Rattle.class.specs.Classes.{route_class}
 use Rattle.gauge.specs.Designing.{level_steps}
-use Rattle.gauge.specs.declared.LevelRead.{LevelRead}
 use Rattle.record.specs.Counting.{greatest}
 use Rattle.lines.specs.Decimals.{count_text}
 use Rattle.lines.specs.Lines.{line_bytes, newline, spaced}
@@ -37,7 +37,6 @@ use Rattle.channel.specs.Showing.{shown_texts, texts_of, shown, TextShown}
 use Rattle.channel.specs.Typing.{any_fault, bytes_of_sheets, TypedOut}
 use Rattle.channel.specs.Worksheets.{items_of, worksheet_lines, worksheets_text, Accepted, OverRecord}
 use Rattle.channel.specs.Starred.{text_of_s}
-use Rattle.channel.specs.declared.Text.TheVariants.{Whole}
 use Rattle.channel.specs.declared.route.Route.{Route}
 use Rattle.channel.specs.declared.worksheets.Source.{Source}
 use Rattle.channel.specs.declared.worksheets.Source.TheVariants.{Typed}
@@ -47,10 +46,12 @@ use Rattle.channel.proofs.Routes as the-route
 use Rattle.channel.proofs.Starred.{sample}
 use Rattle.channel.proofs.Shows.{indexed}
 use Rattle.channel.proofs.Faults.{none_told_exactly}
+use Rattle.datum.specs.declared.Level.{Level}
+use Rattle.gauge.specs.declared.LevelFault.{LevelFault}
 
 -- Whatever blocks the record and the sheets came in, the text is that of the record and the sheets: where the program came to its end, there are
 -- the blocks that it read, each to its end, and what was written, with the rest in the buffer, is what is printed of their bytes.
-pub text_is_printed : (form : Form) (buffer later : List ℕ) (rest : ℕ) → TextPrinted form buffer (Whole rest) later
+pub text_is_printed : (form : Form) (buffer later : List ℕ) (rest : ℕ) → TextPrinted form buffer (Some rest) later
     → (file : Input) × Came file_block file × ((input : Input) × Came input_block input
     × (written line_bytes (lines_of form (input_of file) (input_of input)) (record { at = 0; buffer = buffer }) ++ take rest later ≡ printed form (input_of file) (input_of input)))
 text_is_printed form buffer later rest ensured = ensured
@@ -80,7 +81,7 @@ pub cut_changes_nothing : (sheets : ℕ) (first second : List ℕ) → length fi
 cut_changes_nothing = in_two
 
 -- The route after sheets
-module _ (level : LevelRead) where
+module _ (level : Result Level LevelFault) where
   -- A sheet of another length gets 1.
   pub short_gets_one : (sheet : List ℕ) → length sheet ≢ 28 → code_of (design_at sheet level) ≡ 1
   short_gets_one sheet = other_length_one sheet level
@@ -107,7 +108,7 @@ module _ (level : LevelRead) where
     all_that_came_agreed = the-route.all_agreed level sheets
 
 -- By both engines the line of a sheet is as ever, with the plain engine's three numbers before its newline;
-pub line_as_ever : (index : ℕ) (sheet : List ℕ) (level : LevelRead)
+pub line_as_ever : (index : ℕ) (sheet : List ℕ) (level : Result Level LevelFault)
     → (text : List ℕ) × (sheet_line_in Alone index sheet level ≡ text ++ newline ∷ [])
     × (sheet_line_in Both index sheet level ≡ text ++ (spaced (map count_text (both_of sheet level).plain) ++ newline ∷ []))
 line_as_ever index sheet level = both_line_longer index (numbers_of (design_at sheet level)) (both_of sheet level).plain
@@ -122,7 +123,7 @@ pub starred_text : printed Alone [] (writing sheet_s) ≡ text_of_s
 starred_text = sample
 
 -- Whatever blocks bytes came in that are shown, the text is theirs, likewise.
-pub text_is_shown : (buffer later : List ℕ) (rest : ℕ) → TextShown buffer (Whole rest) later
+pub text_is_shown : (buffer later : List ℕ) (rest : ℕ) → TextShown buffer (Some rest) later
     → (input : Input) × Came input_block input × (written shown_bytes (texts_of (input_of input)) (record { at = 0; buffer = buffer }) ++ take rest later ≡ shown (input_of input))
 text_is_shown buffer later rest ensured = ensured
 
@@ -133,7 +134,7 @@ pub shown_in_place : (before : List (List ℕ)) (sheet : List ℕ) (behind : Lis
 shown_in_place = indexed
 
 -- The word type: what was written of a text without a fault and the rest in the buffer are together the bytes of the text.
-pub text_is_typed : (text buffer later : List ℕ) (rest : ℕ) → TypedOut text buffer (Whole rest) later
+pub text_is_typed : (text buffer later : List ℕ) (rest : ℕ) → TypedOut text buffer (Some rest) later
     → written sheet_bytes (bytes_of_sheets (all_of text)) (record { at = 0; buffer = buffer }) ++ take rest later ≡ typed_bytes text
 text_is_typed text buffer later rest out = out
 
@@ -143,7 +144,7 @@ no_fault_exactly = none_told_exactly
 
 -- The words worksheet and worksheet-text: whatever blocks the record came in, what was written and the rest in the buffer are together the pages of the input's sheets and
 -- of their route, over that record.
-pub pages_are_written : (source : Source) (input buffer later : List ℕ) (rest : ℕ) → OverRecord source input buffer (Whole rest) later
+pub pages_are_written : (source : Source) (input buffer later : List ℕ) (rest : ℕ) → OverRecord source input buffer (Some rest) later
     → (file : Input) × Came file_block file × (Accepted source input
     × (written page_bytes (worksheet_lines (level_steps (record_table (input_of file))) (record_counts (input_of file)) (items_of source input)) (record { at = 0; buffer = buffer })
     ++ take rest later
@@ -151,5 +152,5 @@ pub pages_are_written : (source : Source) (input buffer later : List ℕ) (rest 
 pages_are_written source input buffer later rest ensured = ensured
 
 -- There are none of a text with a fault.
-pub pages_of_faultless : (text buffer later : List ℕ) (rest : ℕ) → OverRecord Typed text buffer (Whole rest) later → Faultless text
+pub pages_of_faultless : (text buffer later : List ℕ) (rest : ℕ) → OverRecord Typed text buffer (Some rest) later → Faultless text
 pages_of_faultless text buffer later rest ensured = ensured.2.0

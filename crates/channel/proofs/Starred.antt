@@ -1,4 +1,5 @@
 -- The sample's text: the record's counts and the route are computed, by the numbers of S's design.
+use Rattle.std.specs.Prelude.{Result, Ok, Err}
 use mathlib.Core.Path.{◌≡◌, refl, sym, ap, ap₂, ◌∙◌}
 use mathlib.Core.List.{List, [], ◌∷◌, ◌++◌, append-nil, flatten}
 use Prim.Native.Nat.{ℕ}
@@ -18,8 +19,6 @@ use Rattle.record.specs.declared.Counts.{Counts}
 use Rattle.design.specs.Design.{design_at, design_of}
 use Rattle.design.specs.Numbers.{numbers_of}
 use Rattle.design.specs.Starred.{writing}
-use Rattle.design.specs.declared.Answer.{Answer}
-use Rattle.design.specs.declared.Answer.TheVariants.{Answered, Refused}
 use Rattle.design.proofs.Promises.{table_gives_level}
 use Rattle.lines.specs.Lines.{route_line, sheet_line}
 use Rattle.lines.specs.Starred.{numbers_of_s, line_of_s}
@@ -30,14 +29,16 @@ use Rattle.channel.specs.Text.{sheets_of, record_counts, record_table, record_le
 use Rattle.channel.specs.Starred.{text_of_s}
 use Rattle.channel.specs.declared.route.Route.{Route}
 use Rattle.channel.proofs.Cuts.{next_sheet, no_sheet}
+use Rattle.design.specs.declared.Reason.{Reason}
+use Rattle.design.specs.declared.Figures.{Figures}
 
 -- the route with an answer that has code 0 and ship class 0
-routed : (answer : Answer) → numbers_of answer ≡ numbers_of_s → with_sheet no_sheets answer ≡ record { sheets = 1; answered = 1; class = 0 }
+routed : (answer : Result Figures Reason) → numbers_of answer ≡ numbers_of_s → with_sheet no_sheets answer ≡ record { sheets = 1; answered = 1; class = 0 }
 unfolding numbers_of with_ship
-routed (Answered f) e =
+routed (Ok f) e =
     let ship : f.classes.ship ≡ 0 = ap (λ (numbers : List ℤ). nat_abs (get_or numbers 10 (pos 0))) e in
     rw ship
-routed (Refused r) e = never (ap (λ (numbers : List ℤ). nat_abs (get_or numbers 3 (pos 0))) e)
+routed (Err r) e = never (ap (λ (numbers : List ℤ). nat_abs (get_or numbers 3 (pos 0))) e)
 
 abbrev bytes_s_lem : List ℕ
 bytes_s_lem = writing sheet_s
@@ -49,7 +50,7 @@ one_sheet =
     ∙ ap₂ ◌∷◌ (take_all 28 bytes_s_lem (omega arith)) (no_sheet (drop 28 bytes_s_lem) (omega (arith, length-drop 28 bytes_s_lem)))
 
 -- at the level of no record
-abbrev answer : Answer
+abbrev answer : Result Figures Reason
 answer = design_at bytes_s_lem (record_level [])
 
 over_no_record : design_of bytes_s_lem (record_table []) ≡ answer
@@ -75,7 +76,7 @@ sample =
     let route : with_sheet no_sheets answer ≡ record { sheets = 1; answered = 1; class = 0 } =
     routed answer (ap numbers_of (sym over_no_record) ∙ starred_numbers (record_table [])) in
     let line : sheet_line 1 (numbers_of answer) ≡ line_of_s =
-    ap (λ (a : Answer). sheet_line 1 (numbers_of a)) (sym over_no_record) ∙ starred_sheet (record_table []) in
+    ap (λ (a : Result Figures Reason). sheet_line 1 (numbers_of a)) (sym over_no_record) ∙ starred_sheet (record_table []) in
     one_sheet_text
     ∙ ap₂ text_by no_counts route
     ∙ ap₂ ◌++◌ starred_levels (ap₂ ◌++◌ line (append-nil (route_line 1 1 0) ∙ starred_route))

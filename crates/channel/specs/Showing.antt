@@ -1,5 +1,5 @@
 -- Bytes shown as text (section 14.5): the text of each sheet with its index, what the program's own steps come to, and the whole text.
-use Rattle.std.specs.Prelude.{◌≡◌, true, ℕ, length, take}
+use Rattle.std.specs.Prelude.{◌≡◌, true, ℕ, length, take, Option, Some, None}
 use mathlib.Core.List.{List, [], ◌∷◌, ◌++◌, flatten}
 use Rattle.record.specs.Counting.{one_more}
 use Rattle.texts.specs.Shown.{shown_bytes, shown_text}
@@ -7,8 +7,6 @@ use Rattle.channel.specs.Input.{Filling, ToItsEnd}
 use Rattle.channel.specs.Output.{Lines, with_lines, written}
 use Rattle.channel.specs.Text.{sheets_of}
 use Rattle.channel.specs.Printing.{input_block, printed_count}
-use Rattle.channel.specs.declared.Text.{Text}
-use Rattle.channel.specs.declared.Text.TheVariants.{Whole, Cut}
 use Rattle.channel.specs.declared.showing.State.{State}
 use Rattle.channel.specs.declared.showing.Turn.{Turn}
 use Rattle.channel.specs.declared.showing.Shown.{Shown}
@@ -68,6 +66,6 @@ abbrev pub TextOf : List ℕ → ℕ → List ℕ → List ℕ → Type 0
 TextOf buffer rest later input = written shown_bytes (texts_of input) (record { at = 0; buffer = buffer }) ++ take rest later ≡ shown input
 
 -- whatever blocks the input came in
-abbrev pub TextShown : List ℕ → Text → List ℕ → Type 0
-TextShown buffer (Whole rest) later = ToItsEnd input_block (TextOf buffer rest later)
-TextShown buffer Cut later = Unit {0}
+abbrev pub TextShown : List ℕ → Option ℕ → List ℕ → Type 0
+TextShown buffer (Some rest) later = ToItsEnd input_block (TextOf buffer rest later)
+TextShown buffer None later = Unit {0}

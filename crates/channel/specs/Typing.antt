@@ -1,5 +1,5 @@
 -- A text that is typed: its faults are told, or its bytes are written (section 14.3).
-use Rattle.std.specs.Prelude.{ℕ, ◌≡◌, Bool, true, false, List, [], ◌∷◌, ◌++◌, map, take}
+use Rattle.std.specs.Prelude.{ℕ, ◌≡◌, Bool, true, false, List, [], ◌∷◌, ◌++◌, map, take, Option, Some, None}
 use Rattle.laws.specs.Choice.{ifᵇ◌then◌else◌}
 use Rattle.texts.specs.Shown.{sheet_bytes, sheet_text}
 use Rattle.texts.specs.Texts.{all_of}
@@ -8,8 +8,6 @@ use Rattle.texts.specs.declared.Event.{Event}
 use Rattle.texts.specs.declared.Event.TheVariants.{Nothing, Sheet, Fault}
 use Rattle.texts.specs.declared.Found.{Found}
 use Rattle.channel.specs.Output.{Lines, with_lines, written}
-use Rattle.channel.specs.declared.Text.{Text}
-use Rattle.channel.specs.declared.Text.TheVariants.{Whole, Cut}
 use Rattle.channel.specs.declared.output.Out.{Out}
 
 -- nothing more was found
@@ -47,7 +45,7 @@ SheetsPut all buffer out later =
     lines_at out later ≡ with_lines sheet_bytes (bytes_of_sheets all) (record { at = 0; buffer = buffer })
 
 -- what was written while they were put, and the rest that stands in the buffer, are together the bytes of the text
-abbrev pub TypedOut : List ℕ → List ℕ → Text → List ℕ → Type 0
-TypedOut text buffer (Whole rest) later =
+abbrev pub TypedOut : List ℕ → List ℕ → Option ℕ → List ℕ → Type 0
+TypedOut text buffer (Some rest) later =
     written sheet_bytes (bytes_of_sheets (all_of text)) (record { at = 0; buffer = buffer }) ++ take rest later ≡ typed_bytes text
-TypedOut text buffer Cut later = Unit {0}
+TypedOut text buffer None later = Unit {0}

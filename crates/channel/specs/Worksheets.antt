@@ -1,8 +1,7 @@
 -- The worksheets of an input's sheets and the pages of their route (section 15): what the program's own steps come to, and the whole text.
-use Rattle.std.specs.Prelude.{◌≡◌, ℕ, ◌-◌, take, drop, replicate}
+use Rattle.std.specs.Prelude.{◌≡◌, ℕ, ◌-◌, take, drop, replicate, Option, Some, None, Result}
 use mathlib.Core.List.{List, [], ◌∷◌, ◌++◌, flatten}
 use Rattle.design.specs.Design.{design_at}
-use Rattle.design.specs.declared.Answer.{Answer}
 use Rattle.gauge.specs.Designing.{level_steps}
 use Rattle.gauge.specs.declared.LevelSteps.{LevelSteps}
 use Rattle.lines.specs.Lines.{buffer_within}
@@ -22,14 +21,14 @@ use Rattle.channel.specs.Output.{Lines, with_line, written}
 use Rattle.channel.specs.Printing.{file_block}
 use Rattle.channel.specs.Route.{no_sheets, with_sheet}
 use Rattle.channel.specs.Text.{sheets_of, record_table, record_counts}
-use Rattle.channel.specs.declared.Text.{Text}
-use Rattle.channel.specs.declared.Text.TheVariants.{Whole, Cut}
 use Rattle.channel.specs.declared.route.Route.{Route}
 use Rattle.channel.specs.declared.worksheets.Pass.{Pass}
 use Rattle.channel.specs.declared.worksheets.Pass.TheVariants.{Pages, Stretches}
 use Rattle.channel.specs.declared.worksheets.Source.{Source}
 use Rattle.channel.specs.declared.worksheets.Source.TheVariants.{Bytes, Typed}
 use Rattle.channel.specs.declared.worksheets.State.{State}
+use Rattle.design.specs.declared.Reason.{Reason}
+use Rattle.design.specs.declared.Figures.{Figures}
 
 -- a sheet's bytes with its name
 pub record Named : Type 0 where
@@ -64,7 +63,7 @@ items_of Bytes input = unnamed (sheets_of input)
 items_of Typed input = named_of input
 
 -- the page of a sheet, or its line of the route
-abbrev pub text_by : Pass → LevelSteps → ℕ → List ℕ → List ℕ → Answer → List ℕ
+abbrev pub text_by : Pass → LevelSteps → ℕ → List ℕ → List ℕ → Result Figures Reason → List ℕ
 text_by Pages steps index name sheet answer = page_text index name sheet steps
 text_by Stretches steps index name sheet answer = stretch_text index answer
 
@@ -139,24 +138,24 @@ unfoldable pub worksheets_text : LevelSteps → Counts → List Named → List �
 worksheets_text steps counts items = flatten (worksheet_lines steps counts items)
 
 -- what was written while they were put, and the rest that stands in the buffer, are together the text
-abbrev pub WorksheetsOut : Source → LevelSteps → Counts → List ℕ → List ℕ → Text → List ℕ → Type 0
-WorksheetsOut source steps counts input buffer (Whole rest) later =
+abbrev pub WorksheetsOut : Source → LevelSteps → Counts → List ℕ → List ℕ → Option ℕ → List ℕ → Type 0
+WorksheetsOut source steps counts input buffer (Some rest) later =
     written page_bytes (worksheet_lines steps counts (items_of source input)) (record { at = 0; buffer = buffer }) ++ take rest later
     ≡ worksheets_text steps counts (items_of source input)
-WorksheetsOut source steps counts input buffer Cut later = Unit {0}
+WorksheetsOut source steps counts input buffer None later = Unit {0}
 
 -- of a typed text only where it has no fault
 abbrev pub Accepted : Source → List ℕ → Type 0
 Accepted Bytes input = Unit {0}
 Accepted Typed input = Faultless input
 
-abbrev pub FaultlessOut : Source → LevelSteps → Counts → List ℕ → List ℕ → Text → List ℕ → Type 0
-FaultlessOut source steps counts input buffer (Whole rest) later =
-    Accepted source input × WorksheetsOut source steps counts input buffer (Whole rest) later
-FaultlessOut source steps counts input buffer Cut later = Unit {0}
+abbrev pub FaultlessOut : Source → LevelSteps → Counts → List ℕ → List ℕ → Option ℕ → List ℕ → Type 0
+FaultlessOut source steps counts input buffer (Some rest) later =
+    Accepted source input × WorksheetsOut source steps counts input buffer (Some rest) later
+FaultlessOut source steps counts input buffer None later = Unit {0}
 
 -- over a record, whatever blocks it came in
-abbrev pub OverRecord : Source → List ℕ → List ℕ → Text → List ℕ → Type 0
-OverRecord source input buffer (Whole rest) later =
-    ToItsEnd file_block (λ (file : List ℕ). FaultlessOut source (level_steps (record_table file)) (record_counts file) input buffer (Whole rest) later)
-OverRecord source input buffer Cut later = Unit {0}
+abbrev pub OverRecord : Source → List ℕ → List ℕ → Option ℕ → List ℕ → Type 0
+OverRecord source input buffer (Some rest) later =
+    ToItsEnd file_block (λ (file : List ℕ). FaultlessOut source (level_steps (record_table file)) (record_counts file) input buffer (Some rest) later)
+OverRecord source input buffer None later = Unit {0}

@@ -5,14 +5,15 @@ ghost use Rattle.channel.specs.Printing.{worked_in};
 
 use crate::output;
 use both::{Both, Verdict};
-use gauge::LevelRead;
 use lines::Form;
+use datum::Level;
+use gauge::LevelFault;
 
 // The bytes of the message that names a sheet: its words have 50, and its index at most 20.
 const MESSAGE: usize = 70;
 
 // What is worked of a sheet: the worksheet's answer alone, or both engines.
-pub fn worked(form: Form, sheet: &[u8], level: LevelRead) -> Both
+pub fn worked(form: Form, sheet: &[u8], level: Result<Level, LevelFault>) -> Both
     ensures { result ≡ worked_in form sheet.now level }
 {
     match form {

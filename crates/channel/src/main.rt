@@ -6,13 +6,13 @@ ghost use Rattle.std.specs.Prelude.{◌≤◌, length};
 ghost use Rattle.lines.specs.Lines.{line_bytes};
 ghost use Rattle.channel.specs.Printing.{LinesPrinted, TextPrinted};
 
-use crate::levels::Loaded;
 use crate::reading::Task;
 use crate::worksheets::Source;
-use gauge::LevelRead;
 use lines::Form;
 use record::Counts;
 use std::env::{Env, FillError};
+use datum::Level;
+use gauge::LevelFault;
 
 mod engines;
 mod input;
@@ -24,13 +24,6 @@ mod sheets;
 mod showing;
 mod typing;
 mod worksheets;
-
-// The whole text, with so many bytes of it still in the buffer; or that it was cut short.
-#[derive(Clone, Copy)]
-enum Text {
-    Whole(usize),
-    Cut,
-}
 
 // The bytes of the buffer in which lines wait.
 const BUFFER: usize = 65536;
@@ -48,10 +41,10 @@ fn main(rt: HostRuntime) {
         Err(FillError::TooLong) => of_word(rt, Some(b""), &mut buffer),
     };
     match text {
-        Text::Whole(rest) => {
+        Some(rest) => {
             output::put_out(rt, &buffer, rest);
         }
-        Text::Cut => {}
+        None => {}
     }
 }
 
@@ -64,7 +57,7 @@ fn same_word(word: &[u8], name: &[u8]) -> bool {
 }
 
 // What the program's first word asks for; without one it prints.
-fn of_word(rt: HostRuntime, first: Option<&[u8]>, buffer: &mut [u8]) -> Text
+fn of_word(rt: HostRuntime, first: Option<&[u8]>, buffer: &mut [u8]) -> Option<usize>
     requires { 65536 ≤ length buffer.old }
 {
     let word = match first {
@@ -87,30 +80,30 @@ fn of_word(rt: HostRuntime, first: Option<&[u8]>, buffer: &mut [u8]) -> Text
         return reading::of_input(rt, Task::Worksheets(Source::Typed), buffer);
     }
     if same_word(word, b"form") {
-        return Text::Whole(texts::put_form(buffer, 0));
+        return Some(texts::put_form(buffer, 0));
     }
     let _ = eprintln!(rt;
         "no such word: both, type, show, form, worksheet and worksheet-text are known"
     );
-    Text::Cut
+    None
 }
 
 // The text of the record and the sheets.
-fn print(rt: HostRuntime, form: Form, buffer: &mut [u8]) -> Text
+fn print(rt: HostRuntime, form: Form, buffer: &mut [u8]) -> Option<usize>
     requires { line_bytes ≤ length buffer.old }
     ensures { TextPrinted form buffer.old result buffer.new }
 {
     let mut table = [0u32; gauge::SLOTS];
     let loaded = levels::load(rt, &mut table);
     match loaded {
-        Loaded::Counted(counts) => print_lines(
+        Some(counts) => print_lines(
             rt,
             form,
             gauge::design_level(&table),
             counts,
             buffer,
         ),
-        Loaded::NotRead => Text::Cut,
+        None => None,
     }
 }
 
@@ -118,10 +111,10 @@ fn print(rt: HostRuntime, form: Form, buffer: &mut [u8]) -> Text
 fn print_lines(
     rt: HostRuntime,
     form: Form,
-    level: LevelRead,
+    level: Result<Level, LevelFault>,
     counts: Counts,
     buffer: &mut [u8],
-) -> Text
+) -> Option<usize>
     requires { line_bytes ≤ length buffer.old }
     ensures { LinesPrinted form level counts buffer.old result buffer.new }
 {
@@ -129,11 +122,11 @@ fn print_lines(
     let printed = sheets::print_all(rt, form, level, buffer, at);
     if !printed.whole {
         output::cut_short(rt, buffer, printed.state.out, printed.failure);
-        return Text::Cut;
+        return None;
     }
     let last = sheets::print_route(rt, form, buffer, printed.state);
     if last.open {
-        return Text::Whole(last.at);
+        return Some(last.at);
     }
-    Text::Cut
+    None
 }

@@ -1,12 +1,11 @@
 // Standard input read whole, and the words that ask for that.
-ghost use Rattle.std.specs.Prelude.{◌≡◌, ◌≤◌, length};
+ghost use Rattle.std.specs.Prelude.{◌≡◌, ◌≤◌, length, None};
 ghost use Rattle.worksheet.specs.Framing.{page_bytes};
 ghost use Rattle.channel.specs.Input.{ReadWithin};
-ghost use Rattle.channel.specs.declared.reading.Whole.TheVariants.{NotRead};
 
 use crate::input::Filled;
 use crate::worksheets::Source;
-use crate::{Text, input, output, typing, worksheets};
+use crate::{input, output, typing, worksheets};
 use std::io;
 
 // The bytes of the longest input that is read whole.
@@ -17,13 +16,6 @@ const LONGEST: usize = 4194304;
 pub enum Task {
     Type,
     Worksheets(Source),
-}
-
-// So many bytes were read; or the input was not read to its end or is longer, which is told.
-#[derive(Clone, Copy)]
-enum Whole {
-    Bytes(usize),
-    NotRead,
 }
 
 // What standard input has behind an input that fills its space: a byte, none, or a read that fails.
@@ -39,22 +31,22 @@ fn input_space() -> [u8; LONGEST]
     [0; LONGEST]
 }
 
-fn not_read(rt: HostRuntime, failure: Option<io::Error>) -> Whole
-    ensures { result ≡ NotRead }
+fn not_read(rt: HostRuntime, failure: Option<io::Error>) -> Option<usize>
+    ensures { result ≡ None }
 {
     output::fail(rt, "standard input", failure);
-    Whole::NotRead
+    None
 }
 
-fn too_long(rt: HostRuntime) -> Whole
-    ensures { result ≡ NotRead }
+fn too_long(rt: HostRuntime) -> Option<usize>
+    ensures { result ≡ None }
 {
     let _ = eprintln!(rt; "standard input: longer than 4194304 bytes");
-    Whole::NotRead
+    None
 }
 
 // Standard input, read to its end.
-fn read_whole(rt: HostRuntime, space: &mut [u8]) -> Whole
+fn read_whole(rt: HostRuntime, space: &mut [u8]) -> Option<usize>
     ensures { ReadWithin result (length space.old) }
 {
     let filled = input::fill(&mut rt.stdin(), &mut *space);
@@ -70,11 +62,11 @@ fn read_whole(rt: HostRuntime, space: &mut [u8]) -> Whole
             return too_long(rt);
         }
     }
-    Whole::Bytes(filled.count)
+    Some(filled.count)
 }
 
 // What a task makes of an input.
-fn made_of(rt: HostRuntime, task: Task, input: &[u8], buffer: &mut [u8]) -> Text
+fn made_of(rt: HostRuntime, task: Task, input: &[u8], buffer: &mut [u8]) -> Option<usize>
     requires { page_bytes ≤ length buffer.old }
 {
     match task {
@@ -84,13 +76,13 @@ fn made_of(rt: HostRuntime, task: Task, input: &[u8], buffer: &mut [u8]) -> Text
 }
 
 // What a task makes of standard input.
-pub fn of_input(rt: HostRuntime, task: Task, buffer: &mut [u8]) -> Text
+pub fn of_input(rt: HostRuntime, task: Task, buffer: &mut [u8]) -> Option<usize>
     requires { page_bytes ≤ length buffer.old }
 {
     let mut space = input_space();
     let read = read_whole(rt, &mut space);
     match read {
-        Whole::Bytes(count) => made_of(rt, task, &space[..count], buffer),
-        Whole::NotRead => Text::Cut,
+        Some(count) => made_of(rt, task, &space[..count], buffer),
+        None => None,
     }
 }

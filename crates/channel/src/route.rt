@@ -1,8 +1,8 @@
 // The route: its sheets, how many are answered, and its class.
 ghost use Rattle.std.specs.Prelude.{◌≡◌};
 ghost use Rattle.channel.specs.Route.{no_sheets, with_sheet};
+use design::{Figures, Reason};
 
-use design::Answer;
 
 // The route so far.
 #[derive(Clone, Copy)]
@@ -24,16 +24,16 @@ pub fn no_sheets() -> Route
 }
 
 // The route with one more sheet.
-pub fn with_sheet(route: Route, answer: Answer) -> Route
+pub fn with_sheet(route: Route, answer: Result<Figures, Reason>) -> Route
     ensures { result ≡ with_sheet route answer }
 {
     match answer {
-        Answer::Answered(figures) => Route {
+        Ok(figures) => Route {
             sheets: record::one_more(route.sheets),
             answered: record::one_more(route.answered),
             class: class::route_class(route.class, figures.classes.ship),
         },
-        Answer::Refused(_) => Route {
+        Err(_) => Route {
             sheets: record::one_more(route.sheets),
             answered: route.answered,
             class: route.class,

@@ -7,9 +7,10 @@ use crate::input::Filled;
 use crate::output::Out;
 use crate::route::Route;
 use crate::{engines, input, output, route};
-use gauge::LevelRead;
 use lines::Form;
 use std::io;
+use datum::Level;
+use gauge::LevelFault;
 
 // A whole number of sheets.
 pub const BLOCK: usize = 65520;
@@ -28,7 +29,7 @@ pub struct State {
 fn print_sheet(
     rt: HostRuntime,
     form: Form,
-    level: LevelRead,
+    level: Result<Level, LevelFault>,
     sheet: &[u8],
     buffer: &mut [u8],
     state: State,
@@ -72,7 +73,7 @@ pub fn sheet_end(from: usize, bytes: usize) -> usize
 fn print_block(
     rt: HostRuntime,
     form: Form,
-    level: LevelRead,
+    level: Result<Level, LevelFault>,
     block: &[u8],
     buffer: &mut [u8],
     state: State,
@@ -110,7 +111,7 @@ struct Turn {
 fn print_some(
     rt: HostRuntime,
     form: Form,
-    level: LevelRead,
+    level: Result<Level, LevelFault>,
     space: &mut [u8],
     buffer: &mut [u8],
     state: State,
@@ -138,7 +139,7 @@ pub struct Sheets {
 pub fn print_all(
     rt: HostRuntime,
     form: Form,
-    level: LevelRead,
+    level: Result<Level, LevelFault>,
     buffer: &mut [u8],
     at: usize,
 ) -> Sheets

@@ -6,7 +6,7 @@ ghost use Rattle.channel.specs.Showing.{progress, sheets_shown, BlockShown, AllS
 
 use crate::input::Filled;
 use crate::output::Out;
-use crate::{Text, input, output, sheets};
+use crate::{input, output, sheets};
 use std::io;
 
 // The texts so far, and the index of the last.
@@ -114,7 +114,7 @@ fn show_all(rt: HostRuntime, buffer: &mut [u8]) -> Shown
 }
 
 // The text of what standard input has, written as the buffer fills but for the last of it.
-pub fn show(rt: HostRuntime, buffer: &mut [u8]) -> Text
+pub fn show(rt: HostRuntime, buffer: &mut [u8]) -> Option<usize>
     requires { shown_bytes ≤ length buffer.old }
     ensures { TextShown buffer.old result buffer.new }
 {
@@ -123,7 +123,7 @@ pub fn show(rt: HostRuntime, buffer: &mut [u8]) -> Text
     let out = state.out;
     if !shown.whole {
         output::cut_short(rt, buffer, out, shown.failure);
-        return Text::Cut;
+        return None;
     }
-    Text::Whole(out.at)
+    Some(out.at)
 }

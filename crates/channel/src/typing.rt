@@ -7,7 +7,7 @@ ghost use Rattle.channel.specs.Output.{with_line};
 ghost use Rattle.channel.specs.Typing.{is_over, is_fault, any_fault, lines_at, FoundPut, SheetsPut, TypedOut};
 
 use crate::output::Out;
-use crate::{Text, output};
+use crate::output;
 use texts::{Event, Found, LineFault, Place};
 
 // The bytes of a message.
@@ -120,16 +120,16 @@ fn put_sheets(rt: HostRuntime, text: &[u8], buffer: &mut [u8]) -> Out
 }
 
 // The bytes of a text without a fault, the last of them still in the buffer; nothing is written of any other text.
-pub fn type_text(rt: HostRuntime, text: &[u8], buffer: &mut [u8]) -> Text
+pub fn type_text(rt: HostRuntime, text: &[u8], buffer: &mut [u8]) -> Option<usize>
     requires { sheet_bytes ≤ length buffer.old }
     ensures { TypedOut text.now buffer.old result buffer.new }
 {
     if tell_faults(rt, text) {
-        return Text::Cut;
+        return None;
     }
     let out = put_sheets(rt, text, buffer);
     if out.open {
-        return Text::Whole(out.at);
+        return Some(out.at);
     }
-    Text::Cut
+    None
 }

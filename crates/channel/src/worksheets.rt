@@ -8,14 +8,13 @@ ghost use Rattle.channel.specs.Text.{sheets_of};
 ghost use Rattle.channel.specs.Typing.{lines_at};
 ghost use Rattle.channel.specs.Worksheets.{text_by, progress, one_put, all_put, unnamed, name_of, bytes_for, named_of, items_of, head_put, foot_put, WorksheetsOut, FaultlessOut, OverRecord};
 
-use crate::levels::Loaded;
 use crate::output::Out;
 use crate::route::Route;
-use crate::{Text, levels, output, route, sheets, typing};
-use design::Answer;
+use crate::{levels, output, route, sheets, typing};
 use gauge::LevelSteps;
 use record::Counts;
 use worksheet::{Greatest, Readings, Totals};
+use design::{Figures, Reason};
 
 // What is put of each sheet: its page, or then its line of the route.
 #[derive(Clone, Copy)]
@@ -39,7 +38,7 @@ fn put_text(
     index: u64,
     name: &[u8],
     sheet: &[u8],
-    answer: Answer,
+    answer: Result<Figures, Reason>,
     buffer: &mut [u8],
     at: usize,
 ) -> usize
@@ -264,7 +263,7 @@ fn put_worksheets(
     counts: Counts,
     input: &[u8],
     buffer: &mut [u8],
-) -> Text
+) -> Option<usize>
     requires { page_bytes ≤ length buffer.old }
     ensures { WorksheetsOut source steps counts input.now buffer.old result buffer.new }
 {
@@ -276,9 +275,9 @@ fn put_worksheets(
     let stretches = put_all(rt, source, Pass::Stretches, steps, input, buffer, again);
     let last = put_foot(rt, counts, buffer, stretches);
     if last.open {
-        return Text::Whole(last.at);
+        return Some(last.at);
     }
-    Text::Cut
+    None
 }
 
 // The same of a text only where it has no fault; its faults are told.
@@ -289,7 +288,7 @@ fn put_faultless(
     counts: Counts,
     input: &[u8],
     buffer: &mut [u8],
-) -> Text
+) -> Option<usize>
     requires { page_bytes ≤ length buffer.old }
     ensures { FaultlessOut source steps counts input.now buffer.old result buffer.new }
 {
@@ -297,7 +296,7 @@ fn put_faultless(
         Source::Bytes => put_worksheets(rt, source, steps, counts, input, buffer),
         Source::Typed => {
             if typing::tell_faults(rt, input) {
-                return Text::Cut;
+                return None;
             }
             put_worksheets(rt, source, steps, counts, input, buffer)
         }
@@ -305,14 +304,14 @@ fn put_faultless(
 }
 
 // The worksheets of an input over the record of levels.bin.
-pub fn over_record(rt: HostRuntime, source: Source, input: &[u8], buffer: &mut [u8]) -> Text
+pub fn over_record(rt: HostRuntime, source: Source, input: &[u8], buffer: &mut [u8]) -> Option<usize>
     requires { page_bytes ≤ length buffer.old }
     ensures { OverRecord source input.now buffer.old result buffer.new }
 {
     let mut table = [0u32; gauge::SLOTS];
     let loaded = levels::load(rt, &mut table);
     match loaded {
-        Loaded::Counted(counts) => put_faultless(
+        Some(counts) => put_faultless(
             rt,
             source,
             gauge::level_steps(&table),
@@ -320,6 +319,6 @@ pub fn over_record(rt: HostRuntime, source: Source, input: &[u8], buffer: &mut [
             input,
             buffer,
         ),
-        Loaded::NotRead => Text::Cut,
+        None => None,
     }
 }

@@ -1,4 +1,5 @@
 -- What the depth promises, in the definition's order. Each proof cites the one that does the work.
+use Rattle.std.specs.Prelude.{Result, Ok, Err}
 use mathlib.Core.Path.{◌≡◌, refl, ap, ◌∙◌, subst}
 use mathlib.Core.Logic.{◌↔◌}
 use mathlib.Core.List.{List, map}
@@ -17,12 +18,8 @@ use Rattle.depth.specs.declared.Column.TheVariants.{A}
 use Rattle.depth.specs.declared.Try.{Try}
 use Rattle.depth.specs.declared.Allowances.{Allowances}
 use Rattle.depth.specs.declared.DepthFault.{DepthFault}
-use Rattle.depth.specs.declared.Finding.{Finding}
-use Rattle.depth.specs.declared.Finding.TheVariants.{Unusable}
 use Rattle.depth.specs.declared.Worksheet.{Worksheet}
 use Rattle.depth.specs.declared.DepthFigures.{DepthFigures}
-use Rattle.depth.specs.declared.Depth.{Depth}
-use Rattle.depth.specs.declared.Depth.TheVariants.{Cut, NoCut}
 use Rattle.depth.specs.Interval.{interval_of}
 use Rattle.depth.specs.Squat.{none, column_number, squat_reading, squat_of, fastest_entry}
 use Rattle.depth.specs.Depth.{allowances_of, z3, natural_of, filling, sailing_with, sailing, z4, own_column, Meets, AsDefined, Ranges, depth_fault_number, depth_number, NoDepthNumber}
@@ -42,6 +39,7 @@ use Rattle.depth.proofs.cuts.Silted as silted
 use Rattle.depth.proofs.Refusals.{depth_exactly}
 use Rattle.depth.proofs.cuts.Demand as demand
 use Rattle.depth.proofs.Cases.{computed}
+use Rattle.depth.specs.declared.Finding.{Finding}
 
 -- The squat never falls from column A to B to C, from lone to passing, or with the speed, from the table's first speed on; none counts as greatest.
 pub squat_never_falls : (lanes lanes' : Lanes) (c c' : Column) (speed speed' : ℕ) → squat_reading lanes ≤ squat_reading lanes'
@@ -105,7 +103,7 @@ pub depth_is_as_defined : (q : Stretch) → AsDefined q (work_depth q)
 depth_is_as_defined = least_cut.work_as_defined
 
 -- Nothing else is that depth, with the worksheet's count and its reason.
-pub no_other_depth : (q : Stretch) (r : Depth) → AsDefined q r → Counted q r → Reasoned q r → r ≡ work_depth q
+pub no_other_depth : (q : Stretch) (r : Result DepthFigures DepthFault) → AsDefined q r → Counted q r → Reasoned q r → r ≡ work_depth q
 no_other_depth = reasons.no_other
 
 -- 13 no squat entry, 14 silt over 120, 15 cut over 3,000: given exactly when the first column that the worksheet cannot use fails by this test
@@ -151,7 +149,7 @@ columns_one_to_three = tries_count
 pub columns_counted : (q : Stretch) → Counted q (work_depth q)
 columns_counted = least_cut.work_counted
 
-pub columns_of_the_worksheet : (q : Stretch) (f : DepthFigures) → work_depth q ≡ Cut f → f.columns ≡ (worksheet_of q).count
+pub columns_of_the_worksheet : (q : Stretch) (f : DepthFigures) → work_depth q ≡ Ok f → f.columns ≡ (worksheet_of q).count
 columns_of_the_worksheet q f e = columns_are q f (subst (Counted q) e (least_cut.work_counted q))
 
 -- The depth is what the last line of the worksheet gives, and the count is where it stands.
@@ -160,12 +158,12 @@ pub depth_of_last_try : (q : Stretch)
 depth_of_last_try = work_of_last
 
 -- Where there is no depth, the last line of the worksheet is the try that fails, and shows the reason.
-pub failing_try_shown : (q : Stretch) (fault : DepthFault) → work_depth q ≡ NoCut fault
-    → finding_of (get_or (worksheet_of q).tries ((worksheet_of q).count - 1) blank_try) ≡ Unusable fault
+pub failing_try_shown : (q : Stretch) (fault : DepthFault) → work_depth q ≡ Err fault
+    → finding_of (get_or (worksheet_of q).tries ((worksheet_of q).count - 1) blank_try) ≡ Err fault
 failing_try_shown q fault e = ap finding_of (last_line_is q) ∙ reasons.last_shows q fault e
 
 -- The figures are within these ranges.
-pub figures_in_range : (q : Stretch) (f : DepthFigures) → work_depth q ≡ Cut f → Ranges f
+pub figures_in_range : (q : Stretch) (f : DepthFigures) → work_depth q ≡ Ok f → Ranges f
 figures_in_range = least_cut.figures_ranges
 
 -- Demand 3, centimetre for centimetre: of two stretches over the same natural depth, where both are answered, the one that is as hard or harder has a cut
@@ -208,11 +206,11 @@ one_fastest_entry c = one_answer
 pub allowances_unique : (q : Stretch) (r s : Allowances) → r ≡ allowances_of q → s ≡ allowances_of q → r ≡ s
 allowances_unique q = one_answer
 
-pub one_finding : (t : Try) (r s : Finding) → r ≡ finding_of t → s ≡ finding_of t → r ≡ s
+pub one_finding : (t : Try) (r s : Result Finding DepthFault) → r ≡ finding_of t → s ≡ finding_of t → r ≡ s
 one_finding t = one_answer
 
 pub one_worksheet : (q : Stretch) (r s : Worksheet) → r ≡ worksheet_of q → s ≡ worksheet_of q → r ≡ s
 one_worksheet q = one_answer
 
-pub one_depth : (q : Stretch) (r s : Depth) → r ≡ work_depth q → s ≡ work_depth q → r ≡ s
+pub one_depth : (q : Stretch) (r s : Result DepthFigures DepthFault) → r ≡ work_depth q → s ≡ work_depth q → r ≡ s
 one_depth q = one_answer

@@ -1,4 +1,5 @@
 -- A depth tells of its rows: it is refused by the one whose reason it has, and has none where it is answered.
+use Rattle.std.specs.Prelude.{Result, Ok, Err}
 use mathlib.Core.Path.{◌≡◌, refl, sym, ap, subst, ◌∙◌}
 use mathlib.Core.Logic.{◌≢◌}
 use native.Mathlib.Omega.{arith}
@@ -9,8 +10,6 @@ use Rattle.depth.specs.declared.Stretch.{Stretch}
 use Rattle.depth.specs.declared.DepthFault.{DepthFault}
 use Rattle.depth.specs.declared.DepthFault.TheVariants.{NoSquatEntry, SiltOver, CutOver}
 use Rattle.depth.specs.declared.DepthFigures.{DepthFigures}
-use Rattle.depth.specs.declared.Depth.{Depth}
-use Rattle.depth.specs.declared.Depth.TheVariants.{Cut, NoCut}
 use Rattle.depth.specs.Depth.{Figures, AsDefined, depth_fault_number, depth_number}
 use Rattle.depth.specs.Worksheet.{tries, work_depth, Counted}
 use Rattle.depth.specs.Reasons.{FirstUnusable, depth_rows}
@@ -18,32 +17,32 @@ use Rattle.depth.proofs.cuts.LeastCut.{work_as_defined, work_counted}
 use Rattle.depth.proofs.cuts.Reasons.{number_exactly}
 
 -- a depth that is answered, with its figures and the worksheet's count
-pub record Worked (q : Stretch) (depth : Depth) : Type 0 where
+pub record Worked (q : Stretch) (depth : Result DepthFigures DepthFault) : Type 0 where
   pub figures : DepthFigures
-  pub is : depth ≡ Cut figures
+  pub is : depth ≡ Ok figures
   pub meant : Figures q figures
   pub counted : figures.columns ≡ length (tries q)
 
-abbrev pub depths : Stretch → Call Depth
-depths q = record { number = depth_number; answered = Worked q; refused = λ depth. (fault : DepthFault) × (depth ≡ NoCut fault) }
+abbrev pub depths : Stretch → Call (Result DepthFigures DepthFault)
+depths q = record { number = depth_number; answered = Worked q; refused = λ depth. (fault : DepthFault) × (depth ≡ Err fault) }
 
 module _ (q : Stretch) where
-  given : (fault : DepthFault) → work_depth q ≡ NoCut fault → FirstUnusable q fault
+  given : (fault : DepthFault) → work_depth q ≡ Err fault → FirstUnusable q fault
   given fault e = (number_exactly q fault).0 (ap depth_number e)
 
-  not_given : (fault : DepthFault) (d : Depth) → work_depth q ≡ d → depth_number d ≢ depth_fault_number fault → ¬ FirstUnusable q fault
+  not_given : (fault : DepthFault) (d : Result DepthFigures DepthFault) → work_depth q ≡ d → depth_number d ≢ depth_fault_number fault → ¬ FirstUnusable q fault
   not_given fault d e other u = other (sym (ap depth_number e) ∙ (number_exactly q fault).1 u)
 
   pub depth_told : Told (depths q) (depth_rows q) (work_depth q)
   depth_told = go (work_depth q) refl
     where
-      go : (d : Depth) → work_depth q ≡ d → Told (depths q) (depth_rows q) d
-      go (NoCut NoSquatEntry) e = stop (given NoSquatEntry e) (refl, (_, refl))
-      go (NoCut SiltOver) e = past (not_given NoSquatEntry _ e (λ n. omega arith)) (stop (given SiltOver e) (refl, (_, refl)))
-      go (NoCut CutOver) e =
+      go : (d : Result DepthFigures DepthFault) → work_depth q ≡ d → Told (depths q) (depth_rows q) d
+      go (Err NoSquatEntry) e = stop (given NoSquatEntry e) (refl, (_, refl))
+      go (Err SiltOver) e = past (not_given NoSquatEntry _ e (λ n. omega arith)) (stop (given SiltOver e) (refl, (_, refl)))
+      go (Err CutOver) e =
           past (not_given NoSquatEntry _ e (λ n. omega arith))
           (past (not_given SiltOver _ e (λ n. omega arith)) (stop (given CutOver e) (refl, (_, refl))))
-      go (Cut f) e =
+      go (Ok f) e =
           past (not_given NoSquatEntry _ e (λ n. omega arith))
           (past (not_given SiltOver _ e (λ n. omega arith))
           (past (not_given CutOver _ e (λ n. omega arith)) (

@@ -1,5 +1,5 @@
 -- Depth below the design level (sections 4.2 to 4.6), all in cm: what the cut is, with no method of finding it.
-use Rattle.std.specs.Prelude.{◌≡◌, ◌⊎◌, ℕ, ◌+◌, ◌*◌, ◌≤◌, ◌<◌}
+use Rattle.std.specs.Prelude.{◌≡◌, ◌⊎◌, ℕ, ◌+◌, ◌*◌, ◌≤◌, ◌<◌, Result, Ok, Err}
 use Rattle.laws.specs.Choice.{ifᵇ◌then◌else◌, ◌≤ᵇ◌}
 use Rattle.laws.specs.Rounding.{up}
 use Rattle.laws.specs.Extremes.{Least}
@@ -11,8 +11,6 @@ use Rattle.depth.specs.declared.Allowances.{Allowances}
 use Rattle.depth.specs.declared.DepthFigures.{DepthFigures}
 use Rattle.depth.specs.declared.DepthFault.{DepthFault}
 use Rattle.depth.specs.declared.DepthFault.TheVariants.{NoSquatEntry, SiltOver, CutOver}
-use Rattle.depth.specs.declared.Depth.{Depth}
-use Rattle.depth.specs.declared.Depth.TheVariants.{Cut, NoCut}
 use Rattle.depth.specs.Squat.{none, squat_of}
 
 -- z0: the ship's list and trim, a four-hundredth of its length, rounded up
@@ -92,9 +90,9 @@ pub record Figures (q : Stretch) (f : DepthFigures) : Type 0 where
   pub sailing_depth : f.sailing.0 ≡ sailing q (own_column q f.cut.0)
 
 -- a depth as it is defined: the figures, or that no cut meets this
-abbrev pub AsDefined : Stretch → Depth → Type 0
-AsDefined q (Cut f) = Figures q f
-AsDefined q (NoCut fault) = (d : ℕ) → Meets q d → ⊥
+abbrev pub AsDefined : Stretch → Result DepthFigures DepthFault → Type 0
+AsDefined q (Ok f) = Figures q f
+AsDefined q (Err fault) = (d : ℕ) → Meets q d → ⊥
 
 -- the ranges of the figures, for whoever uses them
 pub record Ranges (f : DepthFigures) : Type 0 where
@@ -111,9 +109,9 @@ depth_fault_number SiltOver = 14
 depth_fault_number CutOver = 15
 
 -- the number of a depth, 0 for none
-abbrev pub depth_number : Depth → ℕ
-depth_number (Cut f) = 0
-depth_number (NoCut fault) = depth_fault_number fault
+abbrev pub depth_number : Result DepthFigures DepthFault → ℕ
+depth_number (Ok f) = 0
+depth_number (Err fault) = depth_fault_number fault
 
 -- "no depth" is any of the three
 abbrev pub NoDepthNumber : ℕ → Type 0

@@ -1,5 +1,5 @@
 -- Why a stretch has no depth (section 4.7): the first column that the worksheet cannot use, with no word of how the worksheet is followed.
-use Rattle.std.specs.Prelude.{List, [], ◌∷◌, ◌≢◌, ℕ, ◌≤◌, ◌<◌}
+use Rattle.std.specs.Prelude.{List, [], ◌∷◌, ◌≢◌, ℕ, ◌≤◌, ◌<◌, Result, Ok, Err}
 use Rattle.laws.specs.Extremes.{Least}
 use Rattle.laws.specs.Rows.{Row, ◌when◌}
 use Rattle.depth.specs.declared.Stretch.{Stretch}
@@ -7,10 +7,9 @@ use Rattle.depth.specs.declared.Column.{Column}
 use Rattle.depth.specs.declared.Column.TheVariants.{A}
 use Rattle.depth.specs.declared.DepthFault.{DepthFault}
 use Rattle.depth.specs.declared.DepthFault.TheVariants.{NoSquatEntry, SiltOver, CutOver}
-use Rattle.depth.specs.declared.Depth.{Depth}
-use Rattle.depth.specs.declared.Depth.TheVariants.{Cut, NoCut}
 use Rattle.depth.specs.Squat.{none}
 use Rattle.depth.specs.Depth.{z3, natural_of, filling, sailing, z4, Deep, own_column}
+use Rattle.depth.specs.declared.DepthFigures.{DepthFigures}
 
 -- the figure of a column: the least cut that is deep enough in it
 abbrev pub IsFigure : Stretch → Column → ℕ → Type 0
@@ -45,9 +44,9 @@ pub record FirstUnusable (q : Stretch) (fault : DepthFault) : Type 0 where
   pub fails : Fails q column fault
 
 -- a depth with its reason
-abbrev pub Reasoned : Stretch → Depth → Type 0
-Reasoned q (Cut f) = Unit {0}
-Reasoned q (NoCut fault) = FirstUnusable q fault
+abbrev pub Reasoned : Stretch → Result DepthFigures DepthFault → Type 0
+Reasoned q (Ok f) = Unit {0}
+Reasoned q (Err fault) = FirstUnusable q fault
 
 -- the rows of section 8, in the order of the worksheet's tests
 abbrev pub depth_rows : Stretch → List Row

@@ -1,5 +1,5 @@
 -- The worksheet (section 4.7): how the cut is found, column by column.
-use Rattle.std.specs.Prelude.{◌≡◌, ℕ, zero, suc, ◌+◌, ◌-◌, ◌*◌, ◌<◌, Bool, true, false, List, [], ◌∷◌, ◌++◌, length, take}
+use Rattle.std.specs.Prelude.{◌≡◌, ℕ, zero, suc, ◌+◌, ◌-◌, ◌*◌, ◌<◌, Bool, true, false, List, [], ◌∷◌, ◌++◌, length, take, Result, Ok, Err}
 use Rattle.laws.specs.Choice.{ifᵇ◌then◌else◌, ◌≤ᵇ◌, ◌<ᵇ◌, ◌=ᵇ◌}
 use Rattle.laws.specs.Rounding.{up}
 use Rattle.datum.specs.Datum.{below}
@@ -10,13 +10,13 @@ use Rattle.depth.specs.declared.Column.TheVariants.{A}
 use Rattle.depth.specs.declared.ReckonedDepth.{ReckonedDepth}
 use Rattle.depth.specs.declared.Try.{Try}
 use Rattle.depth.specs.declared.DepthFault.TheVariants.{NoSquatEntry, SiltOver, CutOver}
-use Rattle.depth.specs.declared.Finding.{Finding}
-use Rattle.depth.specs.declared.Finding.TheVariants.{Stays, Moves, Unusable}
+use Rattle.depth.specs.declared.Finding.TheVariants.{Stays, Moves}
 use Rattle.depth.specs.declared.Worksheet.{Worksheet}
-use Rattle.depth.specs.declared.Depth.{Depth}
-use Rattle.depth.specs.declared.Depth.TheVariants.{Cut, NoCut}
 use Rattle.depth.specs.Squat.{none, column_number}
 use Rattle.depth.specs.Depth.{z3, natural_of, filling, sailing, own_column}
+use Rattle.depth.specs.declared.Finding.{Finding}
+use Rattle.depth.specs.declared.DepthFigures.{DepthFigures}
+use Rattle.depth.specs.declared.DepthFault.{DepthFault}
 
 -- a depth below the design level as the worksheet reckons it
 abbrev pub reckoned : ℕ → ReckonedDepth
@@ -56,21 +56,21 @@ column_try q c = record {
 }
 
 -- what a try comes to: a column without an entry, with silt over 120 or a figure over 3,000 cannot be used; else it stays or moves
-unfoldable pub finding_of : Try → Finding
+unfoldable pub finding_of : Try → Result Finding DepthFault
 finding_of t =
     ifᵇ none ≤ᵇ t.squat
-    then Unusable NoSquatEntry
+    then Err NoSquatEntry
     else (ifᵇ 120 <ᵇ t.silt
-    then Unusable SiltOver
+    then Err SiltOver
     else (ifᵇ 3000 <ᵇ t.figure.0
-    then Unusable CutOver
-    else (ifᵇ column_number t.falls_in =ᵇ column_number t.column then Stays else Moves)))
+    then Err CutOver
+    else (ifᵇ column_number t.falls_in =ᵇ column_number t.column then (Ok Stays) else (Ok Moves))))
 
 -- the worksheet goes on from a try
-abbrev pub is_move : Finding → Bool
-is_move Stays = false
-is_move Moves = true
-is_move (Unusable fault) = false
+abbrev pub is_move : Result Finding DepthFault → Bool
+is_move (Ok Stays) = false
+is_move (Ok Moves) = true
+is_move (Err fault) = false
 
 unfoldable pub moves_on : Try → Bool
 moves_on t = is_move (finding_of t)
@@ -99,16 +99,16 @@ last_try (t ∷ []) = t
 last_try (t ∷ (u ∷ later)) = last_try (u ∷ later)
 
 -- the answer of a try that is the last of so many columns
-abbrev pub answer_by : Finding → Try → ℕ → Depth
-answer_by Stays t columns = Cut (record { cut = below t.figure.0; sailing = below t.sailing.0; columns = columns })
-answer_by Moves t columns = NoCut CutOver
-answer_by (Unusable fault) t columns = NoCut fault
+abbrev pub answer_by : Result Finding DepthFault → Try → ℕ → Result DepthFigures DepthFault
+answer_by (Ok Stays) t columns = Ok (record { cut = below t.figure.0; sailing = below t.sailing.0; columns = columns })
+answer_by (Ok Moves) t columns = Err CutOver
+answer_by (Err fault) t columns = Err fault
 
-unfoldable pub answer_of : Try → ℕ → Depth
+unfoldable pub answer_of : Try → ℕ → Result DepthFigures DepthFault
 answer_of t columns = answer_by (finding_of t) t columns
 
 -- the depth of a stretch: the worksheet's last try, and how many columns it tried
-unfoldable pub work_depth : Stretch → Depth
+unfoldable pub work_depth : Stretch → Result DepthFigures DepthFault
 work_depth q = answer_of (last_try (tries q)) (length (tries q))
 
 -- tries that follow the worksheet from a column on, with no word of how often it moves: it goes on exactly as long as it moves
@@ -118,9 +118,9 @@ Followed line c (t ∷ []) = (t ≡ line c) × (moves_on t ≡ false)
 Followed line c (t ∷ (u ∷ later)) = (t ≡ line c) × (moves_on t ≡ true) × Followed line t.falls_in (u ∷ later)
 
 -- a depth that counts the columns as the worksheet has them
-abbrev pub Counted : Stretch → Depth → Type 0
-Counted q (Cut f) = f.columns ≡ length (tries q)
-Counted q (NoCut fault) = Unit {0}
+abbrev pub Counted : Stretch → Result DepthFigures DepthFault → Type 0
+Counted q (Ok f) = f.columns ≡ length (tries q)
+Counted q (Err fault) = Unit {0}
 
 -- tries that never move back: each is in a later column than the one before it
 abbrev pub Forward : List Try → Type 0

@@ -66,7 +66,6 @@ pub enum DepthFault {
 pub enum Finding {
     Stays,
     Moves,
-    Unusable(DepthFault),
 }
 
 // The worksheet: its tries in order, `count` of them, then blank ones.
@@ -82,13 +81,6 @@ pub struct DepthFigures {
     pub cut: BelowLevel,
     pub sailing: BelowLevel,
     pub columns: u8,
-}
-
-// The depth of a stretch, or why the first column that its worksheet cannot use gives none.
-#[derive(Clone, Copy)]
-pub enum Depth {
-    Cut(DepthFigures),
-    NoCut(DepthFault),
 }
 
 // What the ship's list and trim, the clearance under the keel and the waves add to the draft, in cm: z0, z1 and z2.
@@ -303,24 +295,24 @@ fn blank_try() -> Try
 
 // The limits of a column in the order of the worksheet, and then where its figure falls.
 #[tactic(auto, using(crate::proofs::walks::Findings::no_entry, crate::proofs::walks::Findings::too_much_silt))]
-pub fn finding_of(tried: Try) -> Finding
+pub fn finding_of(tried: Try) -> Result<Finding, DepthFault>
     ensures { result ≡ finding_of tried }
 {
     if NONE <= tried.squat {
-        return Finding::Unusable(DepthFault::NoSquatEntry);
+        return Err(DepthFault::NoSquatEntry);
     }
     if 120 < tried.silt {
-        return Finding::Unusable(DepthFault::SiltOver);
+        return Err(DepthFault::SiltOver);
     }
     if 3000 < tried.figure.0 {
-        return Finding::Unusable(DepthFault::CutOver);
+        return Err(DepthFault::CutOver);
     }
     let falls_in = tried.falls_in;
     let column = tried.column;
     if column_number(falls_in) == column_number(column) {
-        Finding::Stays
+        Ok(Finding::Stays)
     } else {
-        Finding::Moves
+        Ok(Finding::Moves)
     }
 }
 
@@ -329,9 +321,9 @@ fn moves_on(tried: Try) -> bool
     ensures { result ≡ moves_on tried }
 {
     match finding_of(tried) {
-        Finding::Stays => false,
-        Finding::Moves => true,
-        Finding::Unusable(_) => false,
+        Ok(Finding::Stays) => false,
+        Ok(Finding::Moves) => true,
+        Err(_) => false,
     }
 }
 
@@ -364,19 +356,19 @@ pub fn fill_worksheet(stretch: Stretch) -> Worksheet
 }
 
 // The depth that the last of `columns` tries gives.
-fn answer_of(last: Try, columns: u8) -> Depth
+fn answer_of(last: Try, columns: u8) -> Result<DepthFigures, DepthFault>
     requires { last.sailing.0 ≤ last.figure.0 }
     ensures { result ≡ answer_of last columns }
 {
     match finding_of(last) {
-        Finding::Stays => Depth::Cut(DepthFigures {
+        Ok(Finding::Stays) => Ok(DepthFigures {
             cut: BelowLevel(last.figure.0 as u16),
             sailing: BelowLevel(last.sailing.0 as u16),
             columns,
         }),
         // no last try moves
-        Finding::Moves => Depth::NoCut(DepthFault::CutOver),
-        Finding::Unusable(fault) => Depth::NoCut(fault),
+        Ok(Finding::Moves) => Err(DepthFault::CutOver),
+        Err(fault) => Err(fault),
     }
 }
 
@@ -396,7 +388,7 @@ fn last_line(worksheet: Worksheet) -> Try
 }
 
 // The depth of a stretch: the last try of its worksheet.
-pub fn work_depth(stretch: Stretch) -> Depth
+pub fn work_depth(stretch: Stretch) -> Result<DepthFigures, DepthFault>
     ensures { result ≡ work_depth stretch }
 {
     let worksheet = fill_worksheet(stretch);

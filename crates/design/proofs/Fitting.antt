@@ -1,5 +1,6 @@
 -- Each number of a design fits 32 bits: each figure by what it is and what its room says of it, a number that turns a sheet away by its row, and
 -- its field as it is one of the 29.
+use Rattle.std.specs.Prelude.{Result, Ok, Err}
 use mathlib.Core.Path.{◌≡◌, refl}
 use mathlib.Core.Bool.{Bool, true, false}
 use mathlib.Core.List.{List}
@@ -36,13 +37,11 @@ use Rattle.design.specs.Refusals.{reason_number, reason_field, NamesFirst, sheet
 use Rattle.design.specs.Answers.{stretch_of, width_in, FiguresAre}
 use Rattle.design.specs.declared.Figures.{Figures}
 use Rattle.design.specs.declared.Reason.{Reason}
-use Rattle.design.specs.declared.Answer.{Answer}
-use Rattle.design.specs.declared.Answer.TheVariants.{Answered, Refused}
 use Rattle.design.proofs.answers.Numbers.{reason_to, field_zero}
 use Rattle.design.proofs.rows.Readings.{sheet_read}
 use Rattle.design.proofs.rows.Exactly.{Ended, design_ended}
 
-abbrev AllFit : Answer → Type 0
+abbrev AllFit : Result Figures Reason → Type 0
 AllFit a = Each (SFits w32) (numbers_of a)
 
 under : {n : ℕ} → n < 2 ^ 31 → SFits w32 (pos n)
@@ -50,7 +49,7 @@ under h = record { sfits = h }
 
 -- the figures of a valid sheet at a level that is held in 16 bits
 module _ (s : Sheet) (valid : Valid s) (level : Level) (held : level.0 < 2 ^ 16) where
-  answered_fits : (f : Figures) → FiguresAre s level f → AllFit (Answered f)
+  answered_fits : (f : Figures) → FiguresAre s level f → AllFit (Ok f)
   unfolding numbers_of figures_of greatest field_at fields
   answered_fits f are =
       let cut = are.cut.holds in
@@ -69,7 +68,7 @@ zeros_fit : (n : ℕ) → Each (SFits w32) (replicate n (pos 0))
 zeros_fit zero = tt
 zeros_fit (suc n) = (under (lit< tt), zeros_fit n)
 
-refused_fits : (r : Reason) → reason_field r ≤ count → AllFit (Refused r)
+refused_fits : (r : Reason) → reason_field r ≤ count → AllFit (Err r)
 unfolding numbers_of
 refused_fits r field = under (omega (arith, reason_to r)) & under (omega arith) & zeros_fit (number_count - 2)
 
@@ -86,16 +85,16 @@ level_held FromRecord table given = omega (arith, frequency_level_within table (
 level_held (Given level) table given = given
 
 module _ (bytes table : List ℕ) (small : Bytes bytes) where
-  ended_fits : (a : Answer) → Ended bytes table a → AllFit a
+  ended_fits : (a : Result Figures Reason) → Ended bytes table a → AllFit a
   unfolding rows figures_of greatest field_at fields
-  ended_fits (Answered f) (inl past) =
+  ended_fits (Ok f) (inl past) =
       let none = past.0 in
       let valid = read_valid bytes (sheet_in bytes) (sheet_read bytes table small (none.0 & none.1.0 & none.1.1.0 & tt)) in
       answered_fits (sheet_in bytes) valid (level_in (sheet_in bytes) table)
       (level_held (sheet_in bytes).level table (omega (arith, valid_in_range (sheet_in bytes) valid 27 (lit< tt)))) f past.1
-  ended_fits (Answered f) (inr stopped) = absurd stopped.1
-  ended_fits (Refused r) (inl past) = absurd past.1
-  ended_fits (Refused r) (inr stopped) = refused_fits r (field_within bytes r stopped.1)
+  ended_fits (Ok f) (inr stopped) = absurd stopped.1
+  ended_fits (Err r) (inl past) = absurd past.1
+  ended_fits (Err r) (inr stopped) = refused_fits r (field_within bytes r stopped.1)
 
   pub design_fits : AllFit (design_of bytes table)
   design_fits = ended_fits (design_of bytes table) (design_ended bytes table small)

@@ -1,6 +1,7 @@
 -- What a design promises, demand by demand, then the numbers that turn a sheet away (sections 0, 8, 9 and 11); each is cited from its proof.
 -- `design_of` is what `design` ensures, `design_at` what `design_at` does and `numbers_of` what `numbers` does; each of `bytes` is a byte, as `Bytes`
 -- says.
+use Rattle.std.specs.Prelude.{tt, Result, Ok, Err}
 use mathlib.Core.Path.{◌≡◌, refl}
 use mathlib.Core.List.{List, [], ◌∷◌, map}
 use mathlib.Core.Logic.{◌↔◌, ◌≢◌, ◌⊎◌}
@@ -25,16 +26,12 @@ use Rattle.sheet.specs.Refusals.{read_rows}
 use Rattle.sheet.specs.Sheets.{read_of, written_of, place_of}
 use Rattle.sheet.specs.declared.Sheet.{Sheet}
 use Rattle.sheet.specs.declared.LevelSource.{LevelSource}
-use Rattle.sheet.specs.declared.SheetRead.TheVariants.{Good}
 use Rattle.sheet.specs.declared.ReadFault.TheVariants.{BadField}
-use Rattle.sheet.specs.declared.SheetWritten.TheVariants.{Done}
 use Rattle.sheet.proofs.Promises.{written_and_read, each_one_writing}
 use Rattle.gauge.specs.Adding.{addition, addition_number, table_after}
 use Rattle.gauge.specs.Designing.{design_level, level_rows}
 use Rattle.lanes.specs.Lanes.{lane_count}
 use Rattle.lanes.specs.declared.Lanes.{Lanes}
-use Rattle.gauge.specs.declared.LevelRead.{LevelRead}
-use Rattle.gauge.specs.declared.LevelRead.TheVariants.{Found, NoLevel}
 use Rattle.gauge.specs.declared.LevelFault.TheVariants.{WrongTable}
 use Rattle.gauge.proofs.Promises.{refused_changes_nothing}
 use Rattle.depth.specs.Depth.{Meets}
@@ -52,8 +49,6 @@ use Rattle.design.specs.Starred.{writing, starred_sheets, starred_numbers}
 use Rattle.design.specs.declared.Figures.{Figures}
 use Rattle.design.specs.declared.Reason.{Reason}
 use Rattle.design.specs.declared.Reason.TheVariants.{NoSheet, NoDepth}
-use Rattle.design.specs.declared.Answer.{Answer}
-use Rattle.design.specs.declared.Answer.TheVariants.{Answered, Refused}
 use Rattle.design.proofs.answers.Numbers as the-numbers
 use Rattle.design.proofs.rows.Readings.{sheet_read, level_read, other_length}
 use Rattle.design.proofs.answers.Figures.{figures_only}
@@ -65,12 +60,13 @@ use Rattle.design.proofs.harder.Never as the-harder
 use Rattle.design.proofs.harder.Cured as the-cure
 use Rattle.design.proofs.harder.Deepening as the-deeper
 use Rattle.design.proofs.harder.Growths.{each_grown}
+use Rattle.gauge.specs.declared.LevelFault.{LevelFault}
 use Rattle.design.proofs.Starred as the_starred
 
 -- Demand 1
 module _ (bytes table : List ℕ) where
   -- Every string of bytes is read as a sheet or refused by a fixed number: past 1, 2 and 3 it is the sheet of which the later rows speak.
-  pub sheet_is_read : Bytes bytes → None (read_rows bytes) → read_of bytes ≡ Good (sheet_in bytes)
+  pub sheet_is_read : Bytes bytes → None (read_rows bytes) → read_of bytes ≡ Ok (sheet_in bytes)
   sheet_is_read = sheet_read bytes table
 
   -- Nothing is left for the caller to check first: any bytes over any table are answered, by 0, or refused by the number of a row.
@@ -86,7 +82,7 @@ module _ (bytes table : List ℕ) where
   nine_never = unlisted_never 9 (omega arith) tt
 
 -- A refused sheet yields its number, the place of a bad field, and zeros.
-pub refused_figures_zero : (r : Reason) → numbers_of (Refused r) ≡ pos (reason_number r) ∷ pos (reason_field r) ∷ replicate (number_count - 2) (pos 0)
+pub refused_figures_zero : (r : Reason) → numbers_of (Err r) ≡ pos (reason_number r) ∷ pos (reason_field r) ∷ replicate (number_count - 2) (pos 0)
 unfolding numbers_of
 refused_figures_zero r = refl
 
@@ -99,7 +95,7 @@ module _ (bytes table : List ℕ) (small : Bytes bytes) where
   -- Level, lanes, depth, width, widening and classes are those of the definition: an answered design has the figures of its sheet at its level,
   -- and no other answer has them.
   pub answered_exactly : (f : Figures)
-      → (design_of bytes table ≡ Answered f)
+      → (design_of bytes table ≡ Ok f)
       ↔ (None (rows bytes table) × FiguresAre (sheet_in bytes) (level_in (sheet_in bytes) table) f)
   answered_exactly = figures_exactly bytes table small
 
@@ -108,27 +104,27 @@ pub one_row_of_figures : (s : Sheet) (level : Level) (f g : Figures) → Figures
 one_row_of_figures = figures_only
 
 -- The figures of an answer are those of the rooms' calls on what `working` picks out of the sheet, at any level that was read.
-pub worked_from : (bytes : List ℕ) (read : LevelRead) (s : Sheet) (f : Figures) → read_of bytes ≡ Good s → design_at bytes read ≡ Answered f
+pub worked_from : (bytes : List ℕ) (read : Result Level LevelFault) (s : Sheet) (f : Figures) → read_of bytes ≡ Ok s → design_at bytes read ≡ Ok f
     → WorkedFrom s read f
 worked_from = answered_worked
 
 -- A sheet written and read again is the same sheet.
-pub written_and_read_again : (s : Sheet) (place : List ℕ) → written_of s place ≡ Done → read_of (take size (place_of s place)) ≡ Good s
+pub written_and_read_again : (s : Sheet) (place : List ℕ) → written_of s place ≡ (Ok tt) → read_of (take size (place_of s place)) ≡ Ok s
 written_and_read_again = written_and_read
 
 -- Each sheet has one writing.
-pub one_writing_each : (a b : List ℕ) (s : Sheet) → Bytes a → Bytes b → read_of a ≡ Good s → read_of b ≡ Good s → a ≡ b
+pub one_writing_each : (a b : List ℕ) (s : Sheet) → Bytes a → Bytes b → read_of a ≡ Ok s → read_of b ≡ Ok s → a ≡ b
 one_writing_each = each_one_writing
 
 -- Demand 3
 module _ (bytes table : List ℕ) (small : Bytes bytes) where
   -- The cut is the least whole centimetre that meets its own need.
-  pub least_cut : (f : Figures) → design_of bytes table ≡ Answered f
+  pub least_cut : (f : Figures) → design_of bytes table ≡ Ok f
       → Least (Meets (stretch_of (sheet_in bytes) (level_in (sheet_in bytes) table))) f.cut.0
   least_cut f e = ((answered_exactly bytes table small f).0 e).1.cut
 
   -- "No depth", for any of the three reasons, is said only when none up to 30 m does.
-  pub no_depth_only : (fault : DepthFault) → design_of bytes table ≡ Refused (NoDepth fault) → (d : ℕ) → ¬ Meets (stretch_of (sheet_in bytes) (level_in (sheet_in bytes) table)) d
+  pub no_depth_only : (fault : DepthFault) → design_of bytes table ≡ Err (NoDepth fault) → (d : ℕ) → ¬ Meets (stretch_of (sheet_in bytes) (level_in (sheet_in bytes) table)) d
   no_depth_only = no_depth_said bytes table small
 
 -- Over one table, of two sheets with every field in range that differ in one of these figures and come to the same lanes, the one with the
@@ -182,26 +178,26 @@ module _ (bytes table : List ℕ) (small : Bytes bytes) where
   number_given = design_exactly bytes table small
 
   -- 3: the first bad field's number is given.
-  pub first_bad_field : (k : ℕ) → (design_of bytes table ≡ Refused (NoSheet (BadField k))) ↔ (Least (Bad (groups_of bytes)) k × NoneBefore (rows bytes table) 3)
+  pub first_bad_field : (k : ℕ) → (design_of bytes table ≡ Err (NoSheet (BadField k))) ↔ (Least (Bad (groups_of bytes)) k × NoneBefore (rows bytes table) 3)
   first_bad_field = field_exactly bytes table small
 
 -- 18: a sheet that passes it, with length and beam in each other's places, does not: where it is a sheet at all, its number is 18.
-pub exchanged_is_18 : (bytes other table : List ℕ) → Bytes other → read_of bytes ≡ Good (sheet_in bytes) → read_of other ≡ Good (sheet_in other)
+pub exchanged_is_18 : (bytes other table : List ℕ) → Bytes other → read_of bytes ≡ Ok (sheet_in bytes) → read_of other ≡ Ok (sheet_in other)
     → ¬ UnderThreeBeams (sheet_in bytes) → (sheet_in other).length ≡ (sheet_in bytes).beam → (sheet_in other).beam ≡ (sheet_in bytes).length
     → code_of (design_of other table) ≡ 18
 exchanged_is_18 = exchanged
 
 -- 1, whatever the level: not 28 bytes.
-pub other_length_one : (bytes : List ℕ) (read : LevelRead) → length bytes ≢ size → code_of (design_at bytes read) ≡ 1
+pub other_length_one : (bytes : List ℕ) (read : Result Level LevelFault) → length bytes ≢ size → code_of (design_at bytes read) ≡ 1
 other_length_one = other_length
 
 -- 0 exactly when the design is answered.
-pub zero_when_answered : (a : Answer) → (code_of a ≡ 0) ↔ ((f : Figures) × (a ≡ Answered f))
+pub zero_when_answered : (a : Result Figures Reason) → (code_of a ≡ 0) ↔ ((f : Figures) × (a ≡ Ok f))
 zero_when_answered = the-numbers.zero_exactly
 
 -- Past 4, 5 and 6 the sheet has its level: its own, or the one read off the table.
 pub level_is_had : (bytes table : List ℕ) → None (off_record (sheet_in bytes).level (level_rows table))
-    → level_for (sheet_in bytes).level (design_level table) ≡ Found (level_in (sheet_in bytes) table)
+    → level_for (sheet_in bytes).level (design_level table) ≡ Ok (level_in (sheet_in bytes) table)
 level_is_had = level_read
 
 -- A design over a table is the design at the level that the table gives.
@@ -210,23 +206,23 @@ unfolding design_of
 table_gives_level bytes table = refl
 
 -- A design at refusal 4 is the design over a table of no slots.
-pub no_table : (bytes : List ℕ) → design_at bytes (NoLevel WrongTable) ≡ design_of bytes []
+pub no_table : (bytes : List ℕ) → design_at bytes (Err WrongTable) ≡ design_of bytes []
 unfolding design_of design_level
 no_table bytes = refl
 
 -- The numbers of an answer
 -- There are thirteen: 0 or the number, the field, and the figures.
-pub all_numbers : (a : Answer) → length (numbers_of a) ≡ number_count
+pub all_numbers : (a : Result Figures Reason) → length (numbers_of a) ≡ number_count
 all_numbers = the-numbers.counted
 
 pub how_many : number_count ≡ 13
 how_many = refl
 
-pub code_and_field_first : (a : Answer) → take 2 (numbers_of a) ≡ pos (code_of a) ∷ pos (field_of a) ∷ []
+pub code_and_field_first : (a : Result Figures Reason) → take 2 (numbers_of a) ≡ pos (code_of a) ∷ pos (field_of a) ∷ []
 code_and_field_first = the-numbers.code_and_field
 
 -- The field is 0 unless the number is 3.
-pub field_zero_unless : (a : Answer) → code_of a ≢ 3 → field_of a ≡ 0
+pub field_zero_unless : (a : Result Figures Reason) → code_of a ≢ 3 → field_of a ≡ 0
 field_zero_unless = the-numbers.field_unless
 
 -- A number and its field name one reason.
@@ -235,7 +231,7 @@ one_reason = the-numbers.one_reason
 
 -- An answered design has code 0, field 0, and its level, lanes, s, cut, datum depth, width, widening, columns tried and three classes.
 pub answered_figures : (f : Figures)
-    → numbers_of (Answered f)
+    → numbers_of (Ok f)
     ≡ pos 0 ∷ pos 0 ∷ level_of f.level ∷ pos (lane_count f.lanes) ∷ pos f.sailing.0 ∷ pos f.cut.0 ∷ f.datum.0 ∷ f.width
     ∷ f.widening ∷ pos f.columns ∷ pos f.classes.ship ∷ pos f.classes.width ∷ pos f.classes.depth ∷ []
 unfolding numbers_of
@@ -246,13 +242,13 @@ pub numbers_fit : (bytes table : List ℕ) → Bytes bytes → Each (SFits w32) 
 numbers_fit = design_fits
 
 -- Each call has one result.
-pub design_unique : (bytes table : List ℕ) (r s : Answer) → r ≡ design_of bytes table → s ≡ design_of bytes table → r ≡ s
+pub design_unique : (bytes table : List ℕ) (r s : Result Figures Reason) → r ≡ design_of bytes table → s ≡ design_of bytes table → r ≡ s
 design_unique bytes table = one_answer
 
-pub design_at_unique : (bytes : List ℕ) (read : LevelRead) (r s : Answer) → r ≡ design_at bytes read → s ≡ design_at bytes read → r ≡ s
+pub design_at_unique : (bytes : List ℕ) (read : Result Level LevelFault) (r s : Result Figures Reason) → r ≡ design_at bytes read → s ≡ design_at bytes read → r ≡ s
 design_at_unique bytes read = one_answer
 
-pub level_for_unique : (source : LevelSource) (read r s : LevelRead) → r ≡ level_for source read → s ≡ level_for source read → r ≡ s
+pub level_for_unique : (source : LevelSource) (read r s : Result Level LevelFault) → r ≡ level_for source read → s ≡ level_for source read → r ≡ s
 level_for_unique source read = one_answer
 
 pub depth_stretch_unique : (sheet : Sheet) (level : Level) (lanes : Lanes) (r s : DepthStretch)
@@ -267,14 +263,14 @@ pub section_unique : (sheet : Sheet) (level : Level) (width : ℕ) (cut : BelowL
     → r ≡ speed_section sheet level width cut → s ≡ speed_section sheet level width cut → r ≡ s
 section_unique sheet level width cut = one_answer
 
-pub code_unique : (design : Answer) (r s : ℕ) → r ≡ code_of design → s ≡ code_of design → r ≡ s
+pub code_unique : (design : Result Figures Reason) (r s : ℕ) → r ≡ code_of design → s ≡ code_of design → r ≡ s
 code_unique design = one_answer
 
-pub numbers_unique : (design : Answer) (r s : List ℤ) → r ≡ numbers_of design → s ≡ numbers_of design → r ≡ s
+pub numbers_unique : (design : Result Figures Reason) (r s : List ℤ) → r ≡ numbers_of design → s ≡ numbers_of design → r ≡ s
 numbers_unique design = one_answer
 
 -- The starred cases, from the bytes of their sheets: the sheets that these are read as, and their numbers over any table, as their levels are given.
-pub starred_sheets_lem : map (λ (s : Sheet). read_of (writing s)) starred_sheets ≡ map Good starred_sheets
+pub starred_sheets_lem : map (λ (s : Sheet). read_of (writing s)) starred_sheets ≡ map Ok starred_sheets
 starred_sheets_lem = the_starred.starred_read
 
 pub starred : (table : List ℕ) → map (λ (s : Sheet). numbers_of (design_of (writing s) table)) starred_sheets ≡ starred_numbers

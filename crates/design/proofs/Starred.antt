@@ -1,4 +1,5 @@
 -- The starred cases, each computed from the bytes of its sheet.
+use Rattle.std.specs.Prelude.{Ok}
 use mathlib.Core.Path.{◌≡◌, refl}
 use mathlib.Core.List.{List, map}
 use Prim.Native.Nat.{ℕ}
@@ -9,7 +10,6 @@ use Rattle.sheet.specs.Fields.{fields, field_at, width, least, greatest, pair_ba
 use Rattle.sheet.specs.Packing.{listed, number_of, groups_of, bytes_of}
 use Rattle.sheet.specs.Sheets.{level_source_of, sheet_of, sheet_from, bed_figure, figures_of, read_groups, read_of}
 use Rattle.sheet.specs.declared.Sheet.{Sheet}
-use Rattle.sheet.specs.declared.SheetRead.TheVariants.{Good}
 use Rattle.lanes.specs.Lanes.{by_traffic, lanes_of}
 use Rattle.depth.specs.Interval.{interval_of}
 use Rattle.depth.specs.Squat.{squat_entry}
@@ -27,7 +27,7 @@ use Rattle.design.specs.Design.{figures_of as design_figures, past_depth, past_e
 use Rattle.design.specs.Numbers.{numbers_of}
 use Rattle.design.specs.Starred.{writing, starred_sheets, starred_numbers}
 
-pub starred_read : map (λ (s : Sheet). read_of (writing s)) starred_sheets ≡ map Good starred_sheets
+pub starred_read : map (λ (s : Sheet). read_of (writing s)) starred_sheets ≡ map Ok starred_sheets
 unfolding starts joined cut first_from fields field_at width least greatest pair_bad bad_at first_bad listed number_of groups_of bytes_of level_source_of sheet_of sheet_from bed_figure figures_of read_groups read_of
 starred_read = refl
 

@@ -1,27 +1,22 @@
 -- What the figures of a sheet are (sections 3 to 7), the section whose critical speed they ask for (section 13), and how they were worked.
-use Rattle.std.specs.Prelude.{◌≡◌, ℕ, pos, length}
+use Rattle.std.specs.Prelude.{◌≡◌, ℕ, pos, length, tt, Result, Ok}
 use Rattle.laws.specs.Extremes.{Least}
 use Rattle.datum.specs.Datum.{datum_depth}
 use Rattle.datum.specs.declared.Level.{Level}
 use Rattle.sheet.specs.declared.Sheet.{Sheet}
 use Rattle.depth.specs.Depth.{sailing, own_column, Meets}
-use Rattle.gauge.specs.declared.LevelRead.{LevelRead}
-use Rattle.gauge.specs.declared.LevelRead.TheVariants.{Found}
 use Rattle.depth.specs.Worksheet.{tries, worksheet_of, work_depth}
-use Rattle.depth.specs.declared.Depth.TheVariants.{Cut}
 use Rattle.depth.specs.declared.Stretch.{Stretch as DepthStretch}
 use Rattle.width.specs.Bands.{entries_of}
 use Rattle.width.specs.Bends.{bend_of, widening_figure}
 use Rattle.width.specs.Width.{width_of, width_figure}
-use Rattle.width.specs.declared.Bend.TheVariants.{Widening}
 use Rattle.width.specs.declared.Entries.{Entries}
-use Rattle.width.specs.declared.EntriesFound.TheVariants.{Entered}
 use Rattle.speed.specs.Critical.{check_of}
 use Rattle.speed.specs.declared.Section.{Section}
-use Rattle.speed.specs.declared.SpeedCheck.TheVariants.{Allowed}
 use Rattle.class.specs.Classes.{ship_class, width_class, depth_class, classes_of}
 use Rattle.design.specs.Design.{level_for, depth_stretch, width_stretch, speed_section, lanes_for}
 use Rattle.design.specs.declared.Figures.{Figures}
+use Rattle.gauge.specs.declared.LevelFault.{LevelFault}
 
 -- the stretch whose depth a sheet asks for at a level, in the lanes of the lane rule
 abbrev pub stretch_of : Sheet → Level → DepthStretch
@@ -57,17 +52,17 @@ abbrev pub section_of : Sheet → Level → Figures → Section
 section_of s level f = speed_section s level (width_in s f) f.cut
 
 -- how the figures of a sheet were worked at a level that was read, room by room: what each call that they came through gave
-pub record WorkedFrom (s : Sheet) (read : LevelRead) (f : Figures) : Type 0 where
-  pub level_had : level_for s.level read ≡ Found f.level
+pub record WorkedFrom (s : Sheet) (read : Result Level LevelFault) (f : Figures) : Type 0 where
+  pub level_had : level_for s.level read ≡ Ok f.level
   pub lanes_had : f.lanes ≡ lanes_for s
-  pub depth_worked : work_depth (depth_stretch s f.level f.lanes) ≡ Cut (record { cut = f.cut; sailing = f.sailing; columns = f.columns })
+  pub depth_worked : work_depth (depth_stretch s f.level f.lanes) ≡ Ok (record { cut = f.cut; sailing = f.sailing; columns = f.columns })
   pub columns_tried : f.columns ≡ (worksheet_of (depth_stretch s f.level f.lanes)).count
   pub entries : Entries
-  pub entered : entries_of s.water s.speed s.cross s.wave ≡ Entered entries
+  pub entered : entries_of s.water s.speed s.cross s.wave ≡ Ok entries
   pub width_worked : f.width ≡ pos (width_of (width_stretch s f.lanes f.sailing) entries)
   pub widening : ℕ
-  pub bent : bend_of s.turn s.radius s.length s.speed f.lanes ≡ Widening widening
+  pub bent : bend_of s.turn s.radius s.length s.speed f.lanes ≡ Ok widening
   pub widening_worked : f.widening ≡ pos widening
   pub datum_worked : f.datum ≡ datum_depth f.cut f.level
-  pub speed_allowed : check_of (speed_section s f.level (width_of (width_stretch s f.lanes f.sailing) entries) f.cut) s.speed ≡ Allowed
+  pub speed_allowed : check_of (speed_section s f.level (width_of (width_stretch s f.lanes f.sailing) entries) f.cut) s.speed ≡ (Ok tt)
   pub classes_worked : f.classes ≡ classes_of s.deadweight (width_of (width_stretch s f.lanes f.sailing) entries) f.lanes f.sailing

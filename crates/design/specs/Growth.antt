@@ -1,6 +1,6 @@
 -- What a deeper load, more waves and a second lane cost in depth: of two sheets that differ in one figure, by how much the cut grows at least, and
 -- pairs in which it grows by just that and by more.
-use Rattle.std.specs.Prelude.{◌≡◌, List, [], ◌∷◌, ℕ, ◌+◌, ◌-◌, ◌≤◌}
+use Rattle.std.specs.Prelude.{◌≡◌, List, [], ◌∷◌, ℕ, ◌+◌, ◌-◌, ◌≤◌, Result, Ok, Err}
 use Rattle.sheet.specs.CaseS.{altered_s}
 use Rattle.sheet.specs.Packing.{Bytes}
 use Rattle.sheet.specs.declared.Sheet.{Sheet}
@@ -8,15 +8,15 @@ use Rattle.design.specs.Design.{design_of}
 use Rattle.design.specs.Harder.{figure_in, Raised}
 use Rattle.design.specs.Numbers.{code_of}
 use Rattle.design.specs.Starred.{writing}
-use Rattle.design.specs.declared.Answer.{Answer}
-use Rattle.design.specs.declared.Answer.TheVariants.{Answered, Refused}
+use Rattle.design.specs.declared.Reason.{Reason}
+use Rattle.design.specs.declared.Figures.{Figures}
 
 -- where both designs are answered, the second cut is deeper by so many cm or more
-abbrev pub Deeper : ℕ → Answer → Answer → Type 0
-Deeper cm (Answered f) (Answered g) = f.cut.0 + cm ≤ g.cut.0
-Deeper cm (Answered f) (Refused r) = Unit {0}
-Deeper cm (Refused r) (Answered g) = Unit {0}
-Deeper cm (Refused r) (Refused r') = Unit {0}
+abbrev pub Deeper : ℕ → Result Figures Reason → Result Figures Reason → Type 0
+Deeper cm (Ok f) (Ok g) = f.cut.0 + cm ≤ g.cut.0
+Deeper cm (Ok f) (Err r) = Unit {0}
+Deeper cm (Err r) (Ok g) = Unit {0}
+Deeper cm (Err r) (Err r') = Unit {0}
 
 -- by how much the figure of a field is greater in the second of two sheets
 abbrev pub increase : ℕ → List ℕ → List ℕ → ℕ
@@ -74,9 +74,9 @@ abbrev pub growths : List Growth
 growths = draft_as_much ∷ draft_more ∷ allowance_as_much ∷ allowance_more ∷ lanes_as_much ∷ lanes_more ∷ []
 
 -- the cut of an answer, 0 when refused
-abbrev pub cut_in : Answer → ℕ
-cut_in (Answered f) = f.cut.0
-cut_in (Refused r) = 0
+abbrev pub cut_in : Result Figures Reason → ℕ
+cut_in (Ok f) = f.cut.0
+cut_in (Err r) = 0
 
 -- both sheets are answered over any table, and figure and cut are greater by so much
 pub record Grown (pair : Growth) : Type 0 where

@@ -1,15 +1,12 @@
 -- Demand 3: which figures of a sheet, when greater, never make its design easier (section 0).
-use Rattle.std.specs.Prelude.{◌≡◌, ◌≢◌, ◌⊎◌, List, [], ◌∷◌, ℕ, ◌≤◌, ◌<◌, ℤ, pos, ◌≤ℤ◌}
+use Rattle.std.specs.Prelude.{◌≡◌, ◌≢◌, ◌⊎◌, List, [], ◌∷◌, ℕ, ◌≤◌, ◌<◌, ℤ, pos, ◌≤ℤ◌, Result, Ok, Err}
 use Rattle.sheet.specs.Fields.{count, field}
 use Rattle.sheet.specs.Packing.{groups_of, Bytes}
 use Rattle.sheet.specs.Sheets.{read_of}
-use Rattle.sheet.specs.declared.SheetRead.TheVariants.{Good}
 use Rattle.design.specs.Design.{lanes_for, design_of}
 use Rattle.design.specs.Refusals.{sheet_in, UnderThreeBeams, reason_number}
 use Rattle.design.specs.declared.Figures.{Figures}
 use Rattle.design.specs.declared.Reason.{Reason}
-use Rattle.design.specs.declared.Answer.{Answer}
-use Rattle.design.specs.declared.Answer.TheVariants.{Answered, Refused}
 
 -- what a design has of each: its cut, and its width without widening
 abbrev pub cut : Figures → ℤ
@@ -49,8 +46,8 @@ figure_in bytes k = field (groups_of bytes) k
 
 -- two strings of bytes that are read as sheets, so that every field is in its range; they differ in field k alone, which is greater in the second
 pub record Raised (k : ℕ) (easy hard : List ℕ) : Type 0 where
-  pub easy_read : read_of easy ≡ Good (sheet_in easy)
-  pub hard_read : read_of hard ≡ Good (sheet_in hard)
+  pub easy_read : read_of easy ≡ Ok (sheet_in easy)
+  pub hard_read : read_of hard ≡ Ok (sheet_in hard)
   pub greater : figure_in easy k < figure_in hard k
   pub else_equal : (j : ℕ) → 1 ≤ j → j ≤ count → j ≢ k → figure_in easy j ≡ figure_in hard j
 
@@ -70,10 +67,10 @@ abbrev pub BySpeed : Reason → Type 0
 BySpeed r = Sixteen r ⊎ Seventeen r
 
 -- the second design is no easier: refused, or answered where the first is, with a figure that is no less; refusals that are left out may be cured
-pub data NoEasier (LeftOut : Reason → Type 0) (figure : Figures → ℤ) : Answer → Answer → Type 0 where
-  no_less : {f g : Figures} → (figure f ≤ℤ figure g) → NoEasier LeftOut figure (Answered f) (Answered g)
-  refused : {a : Answer} {r : Reason} → NoEasier LeftOut figure a (Refused r)
-  cured : {r : Reason} {g : Figures} → LeftOut r → NoEasier LeftOut figure (Refused r) (Answered g)
+pub data NoEasier (LeftOut : Reason → Type 0) (figure : Figures → ℤ) : Result Figures Reason → Result Figures Reason → Type 0 where
+  no_less : {f g : Figures} → (figure f ≤ℤ figure g) → NoEasier LeftOut figure (Ok f) (Ok g)
+  refused : {a : Result Figures Reason} {r : Reason} → NoEasier LeftOut figure a (Err r)
+  cured : {r : Reason} {g : Figures} → LeftOut r → NoEasier LeftOut figure (Err r) (Ok g)
 
 -- a sheet passes 18: its length is three beams or more
 abbrev pub Passes : List ℕ → Type 0

@@ -1,20 +1,19 @@
 -- The numbers of a design: code, field and figures, all 0 when refused (sections 8, 9 and 10).
-use Rattle.std.specs.Prelude.{ℕ, ◌-◌, List, [], ◌∷◌, ℤ, pos, replicate}
+use Rattle.std.specs.Prelude.{ℕ, ◌-◌, List, [], ◌∷◌, ℤ, pos, replicate, Result, Ok, Err}
 use Rattle.datum.specs.Datum.{level_of}
 use Rattle.lanes.specs.Lanes.{lane_count}
 use Rattle.design.specs.Refusals.{reason_number, reason_field}
 use Rattle.design.specs.declared.Figures.{Figures}
-use Rattle.design.specs.declared.Answer.{Answer}
-use Rattle.design.specs.declared.Answer.TheVariants.{Answered, Refused}
+use Rattle.design.specs.declared.Reason.{Reason}
 
 -- the code of an answer, 0 or the number, and its field
-abbrev pub code_of : Answer → ℕ
-code_of (Answered f) = 0
-code_of (Refused r) = reason_number r
+abbrev pub code_of : Result Figures Reason → ℕ
+code_of (Ok f) = 0
+code_of (Err r) = reason_number r
 
-abbrev pub field_of : Answer → ℕ
-field_of (Answered f) = 0
-field_of (Refused r) = reason_field r
+abbrev pub field_of : Result Figures Reason → ℕ
+field_of (Ok f) = 0
+field_of (Err r) = reason_field r
 
 -- how many numbers an answer has
 abbrev pub number_count : ℕ
@@ -30,6 +29,6 @@ answered_numbers f =
 abbrev pub refused_numbers : ℕ → ℕ → List ℤ
 refused_numbers number field = pos number ∷ pos field ∷ replicate (number_count - 2) (pos 0)
 
-unfoldable pub numbers_of : Answer → List ℤ
-numbers_of (Answered f) = answered_numbers f
-numbers_of (Refused r) = refused_numbers (reason_number r) (reason_field r)
+unfoldable pub numbers_of : Result Figures Reason → List ℤ
+numbers_of (Ok f) = answered_numbers f
+numbers_of (Err r) = refused_numbers (reason_number r) (reason_field r)

@@ -9,9 +9,9 @@ ghost use Rattle.design.specs.Refusals.{reason_number, reason_field};
 use class::Classes;
 use datum::{BelowChart, BelowLevel, Level};
 use depth::DepthFault;
-use gauge::{LevelFault, LevelRead};
+use gauge::LevelFault;
 use lanes::Lanes;
-use sheet::{ReadFault, SheetRead};
+use sheet::ReadFault;
 use speed::SpeedFault;
 use width::WidthFault;
 
@@ -48,12 +48,6 @@ pub struct Figures {
     pub classes: Classes,
 }
 
-#[derive(Clone, Copy)]
-pub enum Answer {
-    Answered(Figures),
-    Refused(Reason),
-}
-
 // The number of a reason: each room gives those of its own refusals, and 18 is the design's.
 fn reason_number(reason: Reason) -> u8
     ensures { result ≡ reason_number reason }
@@ -86,39 +80,39 @@ fn reason_field(reason: Reason) -> u8
 pub const COUNT: usize = 13;
 
 // The design of a sheet over a level table.
-pub fn design(bytes: &[u8], table: &[u32]) -> Answer
+pub fn design(bytes: &[u8], table: &[u32]) -> Result<Figures, Reason>
     ensures { result ≡ design_of bytes.now table.now }
 {
     design_at(bytes, gauge::design_level(table))
 }
 
 // The same at a level that is already read off the table, for a caller with many sheets.
-pub fn design_at(bytes: &[u8], level: LevelRead) -> Answer
+pub fn design_at(bytes: &[u8], level: Result<Level, LevelFault>) -> Result<Figures, Reason>
     ensures { result ≡ design_at bytes.now level }
 {
     let reading = sheet::read(bytes);
     match reading {
-        SheetRead::Good(sheet) => checks::of_sheet(sheet, level),
-        SheetRead::NoSheet(fault) => Answer::Refused(Reason::NoSheet(fault)),
+        Ok(sheet) => checks::of_sheet(sheet, level),
+        Err(fault) => Err(Reason::NoSheet(fault)),
     }
 }
 
 // The code of a design: 0, or the number that turns its sheet away.
-pub fn code(design: Answer) -> u8
+pub fn code(design: Result<Figures, Reason>) -> u8
     ensures { result ≡ code_of design }
 {
     match design {
-        Answer::Answered(_) => 0,
-        Answer::Refused(reason) => reason_number(reason),
+        Ok(_) => 0,
+        Err(reason) => reason_number(reason),
     }
 }
 
 // The numbers of a design.
-pub fn numbers(design: Answer) -> [i32; COUNT]
+pub fn numbers(design: Result<Figures, Reason>) -> [i32; COUNT]
     ensures { result ≡ numbers_of design }
 {
     match design {
-        Answer::Answered(figures) => numbering::answered(figures),
-        Answer::Refused(reason) => numbering::refused(reason_number(reason), reason_field(reason)),
+        Ok(figures) => numbering::answered(figures),
+        Err(reason) => numbering::refused(reason_number(reason), reason_field(reason)),
     }
 }

@@ -5,19 +5,19 @@ ghost use Rattle.design.specs.Design.{level_for, depth_stretch, width_stretch, w
 use crate::Figures;
 use datum::{BelowLevel, Level};
 use depth::DepthFigures;
-use gauge::LevelRead;
 use lanes::Lanes;
 use sheet::{LevelSource, Sheet};
 use speed::Section;
 use width::Entries;
+use gauge::LevelFault;
 
 // The level of a sheet: its own, or the one read off the record.
-pub fn level_for(source: LevelSource, read: LevelRead) -> LevelRead
+pub fn level_for(source: LevelSource, read: Result<Level, LevelFault>) -> Result<Level, LevelFault>
     ensures { result ≡ level_for source read }
 {
     match source {
         LevelSource::FromRecord => read,
-        LevelSource::Given(level) => LevelRead::Found(level),
+        LevelSource::Given(level) => Ok(level),
     }
 }
 

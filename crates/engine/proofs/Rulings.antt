@@ -1,4 +1,5 @@
 -- The rules of a column, and of the columns from A on: where no cut meets the definition, the reason is that of the first that cannot be used.
+use Rattle.std.specs.Prelude.{Option, Some, None, Result, Ok, Err}
 use mathlib.Core.Path.{◌≡◌, refl, sym, subst}
 use mathlib.Core.Bool.{Bool, true, false}
 use mathlib.Core.Logic.{◌≢◌}
@@ -18,19 +19,16 @@ use Rattle.depth.proofs.squat.Columns.{column_most, same_column}
 use Rattle.depth.proofs.cuts.LeastCut.{served_some}
 use Rattle.depth.proofs.cuts.Reasons.{usable_serves}
 use Rattle.depth.proofs.Promises.{figure_of_its_silt, never_falls_back}
-use Rattle.engine.specs.declared.Search.{Search}
-use Rattle.engine.specs.declared.Search.TheVariants.{At, Nowhere}
-use Rattle.engine.specs.declared.Ruling.{Ruling}
-use Rattle.engine.specs.declared.Ruling.TheVariants.{Fails, FallsIn}
 use Rattle.engine.specs.Plain.{deep, by_figure, by_ruling, first_figure, ruling_of, reason_from}
 use Rattle.engine.proofs.Searches.{Searched, searched, found_least}
 use Rattle.engine.proofs.Serving.{fails_not, deep_exactly}
+use Rattle.depth.specs.declared.DepthFault.{DepthFault}
 
 module _ (q : Stretch) where
   -- what a ruling says of its column: it fails by a test and by none before it, or it can be used and its figure falls there
-  abbrev Ruled : Column → Ruling → Type 0
-  Ruled c (Fails fault) = FailsBy q c fault
-  Ruled c (FallsIn c') = (d : ℕ) × Usable q c d × (c' ≡ own_column q d)
+  abbrev Ruled : Column → Result Column DepthFault → Type 0
+  Ruled c (Err fault) = FailsBy q c fault
+  Ruled c (Ok c') = (d : ℕ) × Usable q c d × (c' ≡ own_column q d)
 
   module _ (c : Column) where
     -- a figure is deep enough, and s or more
@@ -38,25 +36,25 @@ module _ (q : Stretch) where
     not_under d deep = omega arith
 
     -- the first from s on is the figure
-    found_figure : (e : ℕ) → Searched (deep q c) (sailing q c) 121 (At e) → IsFigure q c e
+    found_figure : (e : ℕ) → Searched (deep q c) (sailing q c) 121 (Some e) → IsFigure q c e
     found_figure e f = found_least (deep q c) (sailing q c) 121 (Deep q c) (λ m. (deep_exactly q c m).1) not_under e f ((deep_exactly q c e).0 f.2)
 
-    found_silt : (e : ℕ) → Searched (deep q c) (sailing q c) 121 (At e) → z4 q c e ≤ 120
+    found_silt : (e : ℕ) → Searched (deep q c) (sailing q c) 121 (Some e) → z4 q c e ≤ 120
     found_silt e f = omega (arith, f.1, (found_figure e f).holds)
 
     -- where none is found, the figure, if there is one, has more silt
-    none_found : Searched (deep q c) (sailing q c) 121 Nowhere → (d : ℕ) → IsFigure q c d → 120 < z4 q c d
+    none_found : Searched (deep q c) (sailing q c) 121 None → (d : ℕ) → IsFigure q c d → 120 < z4 q c d
     none_found f d is = go (leb (z4 q c d) 120) refl
       where
         go : (b : Bool) → leb (z4 q c d) 120 ≡ b → 120 < z4 q c d
         go true t = absurd (fails_not _ (deep_exactly q c d) (f d (not_under d is.holds) (omega (arith, leb-true, figure_of_its_silt q c d is))) is.holds)
         go false t = leb-false _ _ t
 
-    by_search_lem : z3 q c < none → (r : Search) → Searched (deep q c) (sailing q c) 121 r → Ruled c (by_figure (natural_of q) r)
-    by_search_lem entry Nowhere f = (entry, none_found f)
-    by_search_lem entry (At e) f = go (ltb 3000 e) refl
+    by_search_lem : z3 q c < none → (r : Option ℕ) → Searched (deep q c) (sailing q c) 121 r → Ruled c (by_figure (natural_of q) r)
+    by_search_lem entry None f = (entry, none_found f)
+    by_search_lem entry (Some e) f = go (ltb 3000 e) refl
       where
-        go : (b : Bool) → ltb 3000 e ≡ b → Ruled c (ifᵇ b then Fails CutOver else FallsIn (own_column q e))
+        go : (b : Bool) → ltb 3000 e ≡ b → Ruled c (ifᵇ b then Err CutOver else Ok (own_column q e))
         go true t = (entry, (e, found_figure e f, found_silt e f, ltb-true _ _ t))
         go false t = (e, record { entry = entry; figure = found_figure e f; silt = found_silt e f; to = ltb-false _ _ t }, refl)
 
@@ -64,7 +62,7 @@ module _ (q : Stretch) where
     unfolding first_figure
     figure_searched = searched (deep q c) (sailing q c) 121
 
-    by_entry : (b : Bool) → leb none (z3 q c) ≡ b → Ruled c (ifᵇ b then Fails NoSquatEntry else by_figure (natural_of q) (first_figure q c))
+    by_entry : (b : Bool) → leb none (z3 q c) ≡ b → Ruled c (ifᵇ b then Err NoSquatEntry else by_figure (natural_of q) (first_figure q c))
     by_entry true t = leb-true _ _ t
     by_entry false t = by_search_lem (leb-false _ _ t) (first_figure q c) figure_searched
 
@@ -96,9 +94,9 @@ module _ (q : Stretch) where
     reasoned zero c r h = absurd (omega (arith, column_most c))
     reasoned (suc many) c r h = go (ruling_of q c) (ruled c) (reasoned many)
       where
-        go : (ruling : Ruling) → Ruled c ruling → ((c' : Column) → Comes q A c' → 3 ≤ many + column_number c' → FirstUnusable q (reason_from q many c'))
+        go : (ruling : Result Column DepthFault) → Ruled c ruling → ((c' : Column) → Comes q A c' → 3 ≤ many + column_number c' → FirstUnusable q (reason_from q many c'))
             → FirstUnusable q (by_ruling (reason_from q many) ruling)
-        go (Fails fault) f later = record { column = c; reached = r; fails = f }
-        go (FallsIn c') f later =
+        go (Err fault) f later = record { column = c; reached = r; fails = f }
+        go (Ok c') f later =
             subst (λ (x : Column). FirstUnusable q (reason_from q many x)) (sym f.2)
             (later (own_column q f.0) (comes_on A c f.0 r f.1 (falls_elsewhere c f.0 f.1)) (omega (arith, falls_later c f.0 r f.1)))

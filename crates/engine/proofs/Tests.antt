@@ -1,4 +1,5 @@
 -- The tests of the plain engine, by what they come to.
+use Rattle.std.specs.Prelude.{Some, Ok, Err}
 use mathlib.Core.Path.{◌≡◌, sym, ap, ◌∙◌}
 use mathlib.Core.Bool.{false}
 use Prim.Native.Nat.{ℕ, suc, ◌-◌, ◌≤◌, ◌<◌}
@@ -10,8 +11,6 @@ use Rattle.depth.specs.declared.DepthFault.{DepthFault}
 use Rattle.depth.specs.declared.DepthFault.TheVariants.{NoSquatEntry, CutOver}
 use Rattle.depth.specs.Squat.{none}
 use Rattle.depth.specs.Depth.{natural_of, column_of, z3, z4}
-use Rattle.engine.specs.declared.Search.TheVariants.{At}
-use Rattle.engine.specs.declared.Ruling.TheVariants.{Fails, FallsIn}
 use Rattle.engine.specs.Plain.{deep, serves, by_figure, by_ruling, first_figure, ruling_of, reason_from}
 
 module _ (q : Stretch) (c : Column) where
@@ -30,7 +29,7 @@ module _ (q : Stretch) (c : Column) where
     by_depth_lem h k = simp (lt-leb _ _ h, le-ltb _ _ k)
 
   -- the two ways to a column's ruling
-  pub rules_entry : none ≤ z3 q c → Fails NoSquatEntry ≡ ruling_of q c
+  pub rules_entry : none ≤ z3 q c → Err NoSquatEntry ≡ ruling_of q c
   unfolding ruling_of
   rules_entry h = simp (le-leb _ _ h)
 
@@ -40,11 +39,11 @@ module _ (q : Stretch) (c : Column) where
 
 -- the three ways to a reason
 module _ (q : Stretch) where
-  pub fails_here : (left : ℕ) (c : Column) (fault : DepthFault) → 0 < left → ruling_of q c ≡ Fails fault → fault ≡ reason_from q left c
+  pub fails_here : (left : ℕ) (c : Column) (fault : DepthFault) → 0 < left → ruling_of q c ≡ Err fault → fault ≡ reason_from q left c
   unfolding reason_from
   fails_here left c fault h e = let f : left ≡ suc (left - 1) = omega arith in rw (f, e)
 
-  pub falls_on : (left : ℕ) (c c' : Column) → 0 < left → ruling_of q c ≡ FallsIn c' → reason_from q (left - 1) c' ≡ reason_from q left c
+  pub falls_on : (left : ℕ) (c c' : Column) → 0 < left → ruling_of q c ≡ Ok c' → reason_from q (left - 1) c' ≡ reason_from q left c
   unfolding reason_from
   falls_on left c c' h e =
       let f : left ≡ suc (left - 1) = omega arith in
@@ -56,8 +55,8 @@ module _ (q : Stretch) where
 
 -- the two ways of a figure
 module _ (natural d : ℕ) where
-  pub figure_over : 3000 < d → Fails CutOver ≡ by_figure natural (At d)
+  pub figure_over : 3000 < d → Err CutOver ≡ by_figure natural (Some d)
   figure_over h = simp (lt-ltb _ _ h)
 
-  pub figure_falls : d ≤ 3000 → FallsIn (column_of natural d) ≡ by_figure natural (At d)
+  pub figure_falls : d ≤ 3000 → Ok (column_of natural d) ≡ by_figure natural (Some d)
   figure_falls h = simp (le-ltb _ _ h)

@@ -2,10 +2,9 @@
 // meets the definition; where none does, it asks the columns why.
 #![tactic(auto)]
 
-ghost use Rattle.std.specs.Prelude.{◌≡◌, true, ◌^◌, ◌<◌};
+ghost use Rattle.std.specs.Prelude.{◌≡◌, true, ◌^◌, ◌<◌, Some};
 ghost use Rattle.datum.specs.Datum.{dug};
 ghost use Rattle.depth.specs.Depth.{column_of, z3, sailing, z4};
-ghost use Rattle.engine.specs.declared.Search.TheVariants.{At};
 ghost use Rattle.engine.specs.Plain.{deep, serves, meets, first_cut, first_figure, by_figure, ruling_of, reason_of, figures_at, plain_depth};
 ghost use Rattle.engine.specs.Numbers.{plain_numbers};
 
@@ -17,27 +16,6 @@ use depth::{Column, DepthFault, Stretch};
 pub struct PlainFigures {
     pub cut: BelowLevel,
     pub sailing: BelowLevel,
-}
-
-// The first cut that meets the definition, or why none does.
-#[derive(Clone, Copy)]
-pub enum PlainDepth {
-    Met(PlainFigures),
-    Unmet(DepthFault),
-}
-
-// The first depth that passed a test, in cm, or that none did.
-#[derive(Clone, Copy)]
-enum Search {
-    At(u64),
-    Nowhere,
-}
-
-// What the rules of a column come to: it fails by a test, or its figure falls in a column.
-#[derive(Clone, Copy)]
-enum Ruling {
-    Fails(DepthFault),
-    FallsIn(Column),
 }
 
 // How many numbers a depth has: its refusal, its sailing depth and its cut.
@@ -144,57 +122,57 @@ fn meets_it(stretch: Stretch, d: u64) -> bool
 }
 
 // The first cut from 1 to 3,000 that meets the definition.
-fn first_cut(stretch: Stretch) -> Search
+fn first_cut(stretch: Stretch) -> Option<u64>
     ensures { result ≡ first_cut stretch }
 {
     let mut d: u64 = 1;
     while d <= DEEPEST {
         if meets_it(stretch, d) {
-            return Search::At(d);
+            return Some(d);
         }
         d += 1;
     }
-    Search::Nowhere
+    None
 }
 
 // The figure of a column, where its z4 is at most 120: the first d from s on that is deep enough. It is s + z4, so the last to try is s + 120.
-fn first_figure(stretch: Stretch, column: Column) -> Search
+fn first_figure(stretch: Stretch, column: Column) -> Option<u64>
     ensures { result ≡ first_figure stretch column }
 {
     let s = sailing_in(stretch, column);
     let mut figure = s;
     while figure <= s + MOST_SILT {
         if is_deep(stretch, column, figure) {
-            return Search::At(figure);
+            return Some(figure);
         }
         figure += 1;
     }
-    Search::Nowhere
+    None
 }
 
 // The rules of a column in their order: an entry, silt of at most 120, a figure of at most 3,000; and then where that falls.
-fn ruling_of(stretch: Stretch, column: Column) -> Ruling
+fn ruling_of(stretch: Stretch, column: Column) -> Result<Column, DepthFault>
     ensures { result ≡ ruling_of stretch column }
 {
     let natural = stretch.natural;
     if depth::NONE <= squat_in(stretch, column) {
-        return Ruling::Fails(DepthFault::NoSquatEntry);
+        return Err(DepthFault::NoSquatEntry);
     }
     let figure = first_figure(stretch, column);
     match figure {
-        Search::At(d) => by_figure(natural, d),
-        Search::Nowhere => Ruling::Fails(DepthFault::SiltOver),
+        Some(d) => by_figure(natural, d),
+        None => Err(DepthFault::SiltOver),
     }
 }
 
 // A figure that is over 3,000, or the column that it falls in.
-fn by_figure(natural: BelowLevel, d: u64) -> Ruling
-    ensures { result ≡ by_figure natural.0 (At d) }
+fn by_figure(natural: BelowLevel, d: u64) -> Result<Column, DepthFault>
+    ensures { result ≡ by_figure natural.0 (Some d) }
 {
     if DEEPEST < d {
-        return Ruling::Fails(DepthFault::CutOver);
+        return Err(DepthFault::CutOver);
     }
-    Ruling::FallsIn(column_at(natural, d))
+    Ok(column_at(natural, d))
 }
 
 // Why no cut meets the definition: from column A on, the test by which the first column fails that cannot be used.
@@ -207,10 +185,10 @@ fn reason_of(stretch: Stretch) -> DepthFault
         left -= 1;
         let ruling = ruling_of(stretch, column);
         match ruling {
-            Ruling::Fails(fault) => {
+            Err(fault) => {
                 return fault;
             }
-            Ruling::FallsIn(next) => {
+            Ok(next) => {
                 column = next;
             }
         }
@@ -234,22 +212,22 @@ fn figures_at(stretch: Stretch, d: u64) -> PlainFigures
 }
 
 // The depth of a stretch, as the definition reads.
-pub fn plain_depth(stretch: Stretch) -> PlainDepth
+pub fn plain_depth(stretch: Stretch) -> Result<PlainFigures, DepthFault>
     ensures { result ≡ plain_depth stretch }
 {
     let found = first_cut(stretch);
     match found {
-        Search::At(d) => PlainDepth::Met(figures_at(stretch, d)),
-        Search::Nowhere => PlainDepth::Unmet(reason_of(stretch)),
+        Some(d) => Ok(figures_at(stretch, d)),
+        None => Err(reason_of(stretch)),
     }
 }
 
 // The numbers of a depth, its refusal 0 where it has a cut.
-pub fn plain_numbers(depth: PlainDepth) -> [u64; PLAIN_COUNT]
+pub fn plain_numbers(depth: Result<PlainFigures, DepthFault>) -> [u64; PLAIN_COUNT]
     ensures { result ≡ plain_numbers depth }
 {
     match depth {
-        PlainDepth::Met(figures) => [0, figures.sailing.0 as u64, figures.cut.0 as u64],
-        PlainDepth::Unmet(fault) => [depth::depth_fault_number(fault) as u64, 0, 0],
+        Ok(figures) => [0, figures.sailing.0 as u64, figures.cut.0 as u64],
+        Err(fault) => [depth::depth_fault_number(fault) as u64, 0, 0],
     }
 }

@@ -1,4 +1,5 @@
 -- Each way out of the call from C, exactly when it is taken, and what it leaves in the place.
+use Rattle.std.specs.Prelude.{Result}
 use mathlib.Core.Path.{◌≡◌, refl, ap, sym, ◌∙◌}
 use mathlib.Core.Bool.{Bool, true, false}
 use mathlib.Core.List.{List, [], ◌++◌}
@@ -19,12 +20,13 @@ use Rattle.laws.proofs.Rows.{in_front}
 use Rattle.sheet.specs.Packing.{Bytes}
 use Rattle.design.specs.Numbers.{code_of, number_count, numbers_of}
 use Rattle.design.specs.Refusals.{rows}
-use Rattle.design.specs.declared.Answer.{Answer}
 use Rattle.design.proofs.Promises.{no_table, number_given, unlisted_never, all_numbers, numbers_fit}
 use Rattle.plan.specs.Words.{bytes_of_numbers, number_at}
 use Rattle.plan.specs.Plan.{needed, planned, plan_number, plan_place, plan_rows}
 use Rattle.plan.proofs.Placing.{bytes_length}
 use Rattle.plan.proofs.Reading.{number_back}
+use Rattle.design.specs.declared.Figures.{Figures}
+use Rattle.design.specs.declared.Reason.{Reason}
 
 pub planned_fits : (sheet : List ℕ) → Bytes sheet → Each (SFits w32) (numbers_of (planned sheet))
 planned_fits sheet small = rw no_table (numbers_fit sheet [] small)
@@ -34,7 +36,7 @@ module _ (sheet place : List ℕ) where
   unfolding plan_number plan_place
   too_small h = rw (lt-ltb (length place) needed h) (refl, refl)
 
-  pub large_enough : (a : Answer) (numbers : List ℤ) (code : ℕ) (later : List ℕ) → needed ≤ length place → a ≡ planned sheet
+  pub large_enough : (a : Result Figures Reason) (numbers : List ℤ) (code : ℕ) (later : List ℕ) → needed ≤ length place → a ≡ planned sheet
       → numbers ≡ numbers_of a → code ≡ code_of a → later ≡ bytes_of_numbers numbers ++ drop needed place
       → (code ≡ plan_number sheet place) × (later ≡ plan_place sheet place)
   unfolding plan_number plan_place

@@ -1,22 +1,22 @@
 -- The call from C: a sheet and a place in, a number back (section 9).
-use Rattle.std.specs.Prelude.{List, [], ◌∷◌, ◌++◌, ℕ, ◌*◌, ◌<◌, length, drop}
+use Rattle.std.specs.Prelude.{List, [], ◌∷◌, ◌++◌, ℕ, ◌*◌, ◌<◌, length, drop, Result, Err}
 use Rattle.laws.specs.Choice.{ifᵇ◌then◌else◌, ◌<ᵇ◌}
 use Rattle.laws.specs.Rows.{Row, ◌when◌}
-use Rattle.gauge.specs.declared.LevelRead.TheVariants.{NoLevel}
 use Rattle.gauge.specs.declared.LevelFault.TheVariants.{WrongTable}
 use Rattle.design.specs.Design.{design_at}
 use Rattle.design.specs.Numbers.{code_of, number_count, numbers_of}
 use Rattle.design.specs.Refusals.{rows}
-use Rattle.design.specs.declared.Answer.{Answer}
 use Rattle.plan.specs.Words.{bytes_of_numbers}
+use Rattle.design.specs.declared.Figures.{Figures}
+use Rattle.design.specs.declared.Reason.{Reason}
 
 -- four bytes for each number of an answer
 abbrev pub needed : ℕ
 needed = 4 * number_count
 
 -- there is no table, so a level off the record gives 4
-abbrev pub planned : List ℕ → Answer
-planned sheet = design_at sheet (NoLevel WrongTable)
+abbrev pub planned : List ℕ → Result Figures Reason
+planned sheet = design_at sheet (Err WrongTable)
 
 -- what is returned: 12 is tested first
 unfoldable pub plan_number : List ℕ → List ℕ → ℕ

@@ -9,8 +9,8 @@ ghost use Rattle.design.specs.Numbers.{code_of};
 ghost use Rattle.plan.specs.Words.{word_bytes, bytes_of_numbers};
 ghost use Rattle.plan.specs.Plan.{needed, plan_number, plan_place};
 
-use design::{Answer, COUNT};
-use gauge::{LevelFault, LevelRead};
+use design::{COUNT, Figures, Reason};
+use gauge::LevelFault;
 
 // The bytes of an answer: four for each number.
 const NEEDED: usize = 4 * COUNT;
@@ -52,7 +52,7 @@ fn put_numbers(numbers: [i32; COUNT], place: &mut [u8])
 }
 
 // The code of an answer, as the call returns it.
-fn code_of(answer: Answer) -> u32
+fn code_of(answer: Result<Figures, Reason>) -> u32
     ensures { result ≡ code_of answer }
 {
     design::code(answer) as u32
@@ -66,7 +66,7 @@ pub extern "C" fn channel_plan(sheet: &[u8], place: &mut [u8]) -> u32
     if place.len() < NEEDED {
         return 12;
     }
-    let answer = design::design_at(sheet, LevelRead::NoLevel(LevelFault::WrongTable));
+    let answer = design::design_at(sheet, Err(LevelFault::WrongTable));
     let numbers = design::numbers(answer);
     put_numbers(numbers, place);
     code_of(answer)

@@ -1,4 +1,5 @@
 -- What the sheet promises, in the definition's words (sections 1 and 8). Each proof stands where it is cited.
+use Rattle.std.specs.Prelude.{Unit, tt, Result, Ok}
 use mathlib.Core.Path.{◌≡◌}
 use mathlib.Core.List.{List}
 use mathlib.Core.Logic.{◌↔◌, ◌≢◌}
@@ -16,11 +17,7 @@ use Rattle.sheet.specs.declared.Range.{Range}
 use Rattle.sheet.specs.declared.Sheet.{Sheet}
 use Rattle.sheet.specs.declared.Standing.{Standing}
 use Rattle.sheet.specs.declared.ReadFault.{ReadFault}
-use Rattle.sheet.specs.declared.SheetRead.{SheetRead}
-use Rattle.sheet.specs.declared.SheetRead.TheVariants.{Good}
 use Rattle.sheet.specs.declared.WriteFault.{WriteFault}
-use Rattle.sheet.specs.declared.SheetWritten.{SheetWritten}
-use Rattle.sheet.specs.declared.SheetWritten.TheVariants.{Done}
 use Rattle.sheet.proofs.bits.Packed.{packed}
 use Rattle.sheet.proofs.sheets.OneWriting.{one_writing, written_read}
 use Rattle.sheet.proofs.fields.BadFields.{bad_within as bad_is_field}
@@ -56,11 +53,11 @@ field_within = named_within
 
 -- Every other string of bytes is a sheet.
 pub else_a_sheet : (bytes : List ℕ) → Bytes bytes
-    → ((s : Sheet) × (read_of bytes ≡ Good s)) ↔ ((length bytes ≡ size) × (¬ SpareSet bytes) × ((k : ℕ) → ¬ Bad (groups_of bytes) k))
+    → ((s : Sheet) × (read_of bytes ≡ Ok s)) ↔ ((length bytes ≡ size) × (¬ SpareSet bytes) × ((k : ℕ) → ¬ Bad (groups_of bytes) k))
 else_a_sheet = good_exactly
 
 -- What is read is a valid sheet, and the bytes are its writing.
-pub read_is_valid : (bytes : List ℕ) (s : Sheet) → Bytes bytes → read_of bytes ≡ Good s → Written bytes s
+pub read_is_valid : (bytes : List ℕ) (s : Sheet) → Bytes bytes → read_of bytes ≡ Ok s → Written bytes s
 read_is_valid = written_read
 
 -- Every field of a valid sheet is from its least to its greatest value.
@@ -74,15 +71,15 @@ pub number_3_figures : (figures : List ℕ) (k : ℕ)
 number_3_figures = from_named_exactly
 
 -- All other figures are a sheet's.
-pub else_figures_of_a_sheet : (figures : List ℕ) → ((s : Sheet) × (sheet_from figures ≡ Good s)) ↔ ((k : ℕ) → ¬ Bad figures k)
+pub else_figures_of_a_sheet : (figures : List ℕ) → ((s : Sheet) × (sheet_from figures ≡ Ok s)) ↔ ((k : ℕ) → ¬ Bad figures k)
 else_figures_of_a_sheet = from_good_exactly
 
 -- The figures that a sheet is made from are its figures.
-pub figures_come_back : (figures : List ℕ) (s : Sheet) → length figures ≡ count → sheet_from figures ≡ Good s → figures_of s ≡ figures
+pub figures_come_back : (figures : List ℕ) (s : Sheet) → length figures ≡ count → sheet_from figures ≡ Ok s → figures_of s ≡ figures
 figures_come_back = figures_of_made
 
 -- A valid sheet is the sheet of its figures.
-pub sheet_comes_back : (s : Sheet) → Valid s → sheet_from (figures_of s) ≡ Good s
+pub sheet_comes_back : (s : Sheet) → Valid s → sheet_from (figures_of s) ≡ Ok s
 sheet_comes_back = from_figures
 
 -- 28 bytes with no spare bit set are read as the sheet of the figures in them.
@@ -90,11 +87,11 @@ pub read_by_its_figures : (bytes : List ℕ) → Bytes bytes → length bytes �
 read_by_its_figures = read_by_figures
 
 -- A sheet written and read again is the same sheet.
-pub written_and_read : (s : Sheet) (place : List ℕ) → written_of s place ≡ Done → read_of (take size (place_of s place)) ≡ Good s
+pub written_and_read : (s : Sheet) (place : List ℕ) → written_of s place ≡ (Ok tt) → read_of (take size (place_of s place)) ≡ Ok s
 written_and_read = read_done
 
 -- Each sheet has one writing.
-pub each_one_writing : (a b : List ℕ) (s : Sheet) → Bytes a → Bytes b → read_of a ≡ Good s → read_of b ≡ Good s → a ≡ b
+pub each_one_writing : (a b : List ℕ) (s : Sheet) → Bytes a → Bytes b → read_of a ≡ Ok s → read_of b ≡ Ok s → a ≡ b
 each_one_writing = one_writing
 
 -- Writing: a number is given exactly when its row holds and none checked before it does, and 0 where none holds.
@@ -112,11 +109,11 @@ pub number_3_written : (s : Sheet) (place : List ℕ) (k : ℕ)
 number_3_written = named_to_write_exactly
 
 -- Every other writing is done.
-pub else_done : (s : Sheet) (place : List ℕ) → (written_of s place ≡ Done) ↔ ((size ≤ length place) × ((k : ℕ) → ¬ Bad (figures_of s) k))
+pub else_done : (s : Sheet) (place : List ℕ) → (written_of s place ≡ (Ok tt)) ↔ ((size ≤ length place) × ((k : ℕ) → ¬ Bad (figures_of s) k))
 else_done = done_exactly
 
 -- A refused writing changes no byte.
-pub refused_changes_nothing : (s : Sheet) (place : List ℕ) → (written_of s place ≡ Done → ⊥) → place_of s place ≡ place
+pub refused_changes_nothing : (s : Sheet) (place : List ℕ) → (written_of s place ≡ (Ok tt) → ⊥) → place_of s place ≡ place
 refused_changes_nothing = refused_unchanged
 
 -- Written sheets fill the first 28 bytes only.
@@ -124,7 +121,7 @@ pub past_stays : (s : Sheet) (place : List ℕ) → drop size (place_of s place)
 past_stays = past_unchanged
 
 -- One result of each call, and one later content of writing.
-pub read_unique : (bytes : List ℕ) (r t : SheetRead) → r ≡ read_of bytes → t ≡ read_of bytes → r ≡ t
+pub read_unique : (bytes : List ℕ) (r t : Result Sheet ReadFault) → r ≡ read_of bytes → t ≡ read_of bytes → r ≡ t
 read_unique bytes = one_answer
 
 pub read_fault_number_unique : (fault : ReadFault) (r t : ℕ) → r ≡ read_fault_number fault → t ≡ read_fault_number fault → r ≡ t
@@ -142,7 +139,7 @@ write_fault_field_unique fault = one_answer
 pub figures_unique : (s : Sheet) (figures others : List ℕ) → figures ≡ figures_of s → others ≡ figures_of s → figures ≡ others
 figures_unique s = one_answer
 
-pub sheet_unique : (figures : List ℕ) (r t : SheetRead) → r ≡ sheet_from figures → t ≡ sheet_from figures → r ≡ t
+pub sheet_unique : (figures : List ℕ) (r t : Result Sheet ReadFault) → r ≡ sheet_from figures → t ≡ sheet_from figures → r ≡ t
 sheet_unique figures = one_answer
 
 pub range_unique : (k : ℕ) (r t : Range) → r ≡ range_of k → t ≡ range_of k → r ≡ t
@@ -151,12 +148,12 @@ range_unique k = one_answer
 pub standing_unique : (figures : List ℕ) (k : ℕ) (r t : Standing) → r ≡ standing_of figures k → t ≡ standing_of figures k → r ≡ t
 standing_unique figures k = one_answer
 
-pub write_unique : (s : Sheet) (place : List ℕ) (r t : SheetWritten) → r ≡ written_of s place → t ≡ written_of s place → r ≡ t
+pub write_unique : (s : Sheet) (place : List ℕ) (r t : Result (Unit {0}) WriteFault) → r ≡ written_of s place → t ≡ written_of s place → r ≡ t
 write_unique s place = one_answer
 
 pub place_unique : (s : Sheet) (place : List ℕ) (now later : List ℕ) → now ≡ place_of s place → later ≡ place_of s place → now ≡ later
 place_unique s place = one_answer
 
 -- The starred case, S: its bytes are read as its sheet, and written from it.
-pub starred : (read_of bytes_s ≡ Good sheet_s) × (bytes_of (figures_of sheet_s) ≡ bytes_s)
+pub starred : (read_of bytes_s ≡ Ok sheet_s) × (bytes_of (figures_of sheet_s) ≡ bytes_s)
 starred = (s_read, s_written)

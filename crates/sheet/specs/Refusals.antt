@@ -1,16 +1,12 @@
 -- The rows of section 8 that reading and writing check, and the number and the field of each fault.
-use Rattle.std.specs.Prelude.{List, [], ◌∷◌, ◌≢◌, ℕ, ◌<◌, length}
+use Rattle.std.specs.Prelude.{List, [], ◌∷◌, ◌≢◌, ℕ, ◌<◌, length, Unit, tt, Result, Ok, Err}
 use Rattle.laws.specs.Rows.{Row, ◌when◌}
 use Rattle.sheet.specs.Fields.{Bad}
 use Rattle.sheet.specs.Packing.{size, groups_of, SpareSet}
 use Rattle.sheet.specs.Sheets.{figures_of}
 use Rattle.sheet.specs.declared.Sheet.{Sheet}
-use Rattle.sheet.specs.declared.SheetRead.{SheetRead}
-use Rattle.sheet.specs.declared.SheetRead.TheVariants.{Good, NoSheet}
 use Rattle.sheet.specs.declared.ReadFault.{ReadFault}
 use Rattle.sheet.specs.declared.ReadFault.TheVariants.{WrongLength, SpareBitSet, BadField}
-use Rattle.sheet.specs.declared.SheetWritten.{SheetWritten}
-use Rattle.sheet.specs.declared.SheetWritten.TheVariants.{Done, NotWritten}
 use Rattle.sheet.specs.declared.WriteFault.{WriteFault}
 use Rattle.sheet.specs.declared.WriteFault.TheVariants.{PlaceTooSmall, BadField as BadFieldToWrite}
 
@@ -46,13 +42,13 @@ read_fault_field SpareBitSet = 0
 read_fault_field (BadField field) = field
 
 -- the number and the field of what bytes are read as: the fault's, 0 for a sheet
-abbrev pub read_number : SheetRead → ℕ
-read_number (Good s) = 0
-read_number (NoSheet fault) = read_fault_number fault
+abbrev pub read_number : Result Sheet ReadFault → ℕ
+read_number (Ok s) = 0
+read_number (Err fault) = read_fault_number fault
 
-abbrev pub read_field : SheetRead → ℕ
-read_field (Good s) = 0
-read_field (NoSheet fault) = read_fault_field fault
+abbrev pub read_field : Result Sheet ReadFault → ℕ
+read_field (Ok s) = 0
+read_field (Err fault) = read_fault_field fault
 
 -- the same of writing
 abbrev pub write_fault_number : WriteFault → ℕ
@@ -63,10 +59,10 @@ abbrev pub write_fault_field : WriteFault → ℕ
 write_fault_field PlaceTooSmall = 0
 write_fault_field (BadFieldToWrite field) = field
 
-abbrev pub written_number : SheetWritten → ℕ
-written_number Done = 0
-written_number (NotWritten fault) = write_fault_number fault
+abbrev pub written_number : Result (Unit {0}) WriteFault → ℕ
+written_number (Ok tt) = 0
+written_number (Err fault) = write_fault_number fault
 
-abbrev pub written_field : SheetWritten → ℕ
-written_field Done = 0
-written_field (NotWritten fault) = write_fault_field fault
+abbrev pub written_field : Result (Unit {0}) WriteFault → ℕ
+written_field (Ok tt) = 0
+written_field (Err fault) = write_fault_field fault

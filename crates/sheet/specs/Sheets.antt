@@ -1,5 +1,5 @@
 -- The sheet that bytes are read as, and the bytes that a sheet is written in (sections 1.3 and 1.4).
-use Rattle.std.specs.Prelude.{ℕ, List, [], ◌∷◌, ◌++◌, ◌≡◌, ℤ, pos, negsuc, length, drop}
+use Rattle.std.specs.Prelude.{ℕ, List, [], ◌∷◌, ◌++◌, ◌≡◌, ℤ, pos, negsuc, length, drop, Unit, tt, Result, Ok, Err}
 use Rattle.datum.specs.Datum.{below_chart}
 use Rattle.datum.specs.declared.BelowChart.{BelowChart}
 use Rattle.laws.specs.Choice.{ifᵇ◌then◌else◌, ◌<ᵇ◌, ◌=ᵇ◌}
@@ -8,12 +8,10 @@ use Rattle.sheet.specs.Packing.{size, groups_of, bytes_of}
 use Rattle.sheet.specs.declared.LevelSource.{LevelSource}
 use Rattle.sheet.specs.declared.LevelSource.TheVariants.{FromRecord, Given}
 use Rattle.sheet.specs.declared.Sheet.{Sheet}
-use Rattle.sheet.specs.declared.SheetRead.{SheetRead}
-use Rattle.sheet.specs.declared.SheetRead.TheVariants.{Good, NoSheet}
 use Rattle.sheet.specs.declared.ReadFault.TheVariants.{WrongLength, SpareBitSet, BadField}
-use Rattle.sheet.specs.declared.SheetWritten.{SheetWritten}
-use Rattle.sheet.specs.declared.SheetWritten.TheVariants.{Done, NotWritten}
 use Rattle.sheet.specs.declared.WriteFault.TheVariants.{PlaceTooSmall, BadField as BadFieldToWrite}
+use Rattle.sheet.specs.declared.ReadFault.{ReadFault}
+use Rattle.sheet.specs.declared.WriteFault.{WriteFault}
 
 -- fields 27 and 28: a level off the record, or given with its figure
 unfoldable pub level_source_of : ℕ → ℕ → LevelSource
@@ -86,23 +84,23 @@ figures_of s =
     ∷ level_figure s.level ∷ s.slope ∷ []
 
 -- the sheet of figures, or the first field that is bad
-unfoldable pub sheet_from : List ℕ → SheetRead
-sheet_from figures = ifᵇ first_bad figures =ᵇ 0 then Good (sheet_of figures) else NoSheet (BadField (first_bad figures))
+unfoldable pub sheet_from : List ℕ → Result Sheet ReadFault
+sheet_from figures = ifᵇ first_bad figures =ᵇ 0 then Ok (sheet_of figures) else Err (BadField (first_bad figures))
 
 -- what fields and spare bits are read as
-unfoldable pub read_groups : List ℕ → SheetRead
-read_groups figures = ifᵇ nth figures count =ᵇ 0 then sheet_from figures else NoSheet SpareBitSet
+unfoldable pub read_groups : List ℕ → Result Sheet ReadFault
+read_groups figures = ifᵇ nth figures count =ᵇ 0 then sheet_from figures else Err SpareBitSet
 
 -- what any string of bytes is read as
-unfoldable pub read_of : List ℕ → SheetRead
-read_of bytes = ifᵇ length bytes =ᵇ size then read_groups (groups_of bytes) else NoSheet WrongLength
+unfoldable pub read_of : List ℕ → Result Sheet ReadFault
+read_of bytes = ifᵇ length bytes =ᵇ size then read_groups (groups_of bytes) else Err WrongLength
 
 -- what writing a sheet into a place answers
-unfoldable pub written_of : Sheet → List ℕ → SheetWritten
+unfoldable pub written_of : Sheet → List ℕ → Result (Unit {0}) WriteFault
 written_of s place =
     ifᵇ length place <ᵇ size
-    then NotWritten PlaceTooSmall
-    else (ifᵇ first_bad (figures_of s) =ᵇ 0 then Done else NotWritten (BadFieldToWrite (first_bad (figures_of s))))
+    then Err PlaceTooSmall
+    else (ifᵇ first_bad (figures_of s) =ᵇ 0 then (Ok tt) else Err (BadFieldToWrite (first_bad (figures_of s))))
 
 -- what the place then holds: the sheet's bytes first, or what it held
 unfoldable pub place_of : Sheet → List ℕ → List ℕ

@@ -88,26 +88,12 @@ pub enum ReadFault {
     BadField(u8),
 }
 
-// What a string of bytes is read as.
-#[derive(Clone, Copy)]
-pub enum SheetRead {
-    Good(Sheet),
-    NoSheet(ReadFault),
-}
-
 // Why a sheet is not written.
 #[derive(Clone, Copy)]
 pub enum WriteFault {
     PlaceTooSmall,
     // by its number
     BadField(u8),
-}
-
-// What writing a sheet answers.
-#[derive(Clone, Copy)]
-pub enum SheetWritten {
-    Done,
-    NotWritten(WriteFault),
 }
 
 // The number that turns bytes away for a fault.
@@ -202,43 +188,43 @@ pub fn figures_of(sheet: Sheet) -> [u32; COUNT]
 }
 
 // The sheet of figures of any size, or the first field that is bad.
-pub fn sheet_from(figures: [u32; COUNT]) -> SheetRead
+pub fn sheet_from(figures: [u32; COUNT]) -> Result<Sheet, ReadFault>
     ensures { result ≡ sheet_from figures }
 {
     let bad = fields::first_bad(figures);
     if bad != 0 {
-        return SheetRead::NoSheet(ReadFault::BadField(bad));
+        return Err(ReadFault::BadField(bad));
     }
-    SheetRead::Good(figures::sheet_of(figures))
+    Ok(figures::sheet_of(figures))
 }
 
 // Any string of bytes as a sheet, or why it is none.
-pub fn read(bytes: &[u8]) -> SheetRead
+pub fn read(bytes: &[u8]) -> Result<Sheet, ReadFault>
     ensures { result ≡ read_of bytes.now }
 {
     if bytes.len() != 28 {
-        return SheetRead::NoSheet(ReadFault::WrongLength);
+        return Err(ReadFault::WrongLength);
     }
     let parts = bits::split(bytes);
     if parts.spare != 0 {
-        return SheetRead::NoSheet(ReadFault::SpareBitSet);
+        return Err(ReadFault::SpareBitSet);
     }
     let figures = parts.figures;
     sheet_from(figures)
 }
 
 // Writes a sheet into the first 28 bytes of a place, or says why not and changes nothing.
-pub fn write(sheet: Sheet, place: &mut [u8]) -> SheetWritten
+pub fn write(sheet: Sheet, place: &mut [u8]) -> Result<(), WriteFault>
     ensures { (result ≡ written_of sheet place.old) × (place.new ≡ place_of sheet place.old) }
 {
     if place.len() < 28 {
-        return SheetWritten::NotWritten(WriteFault::PlaceTooSmall);
+        return Err(WriteFault::PlaceTooSmall);
     }
     let figures = figures_of(sheet);
     let bad = fields::first_bad(figures);
     if bad != 0 {
-        return SheetWritten::NotWritten(WriteFault::BadField(bad));
+        return Err(WriteFault::BadField(bad));
     }
     bits::join(figures, place);
-    SheetWritten::Done
+    Ok(())
 }

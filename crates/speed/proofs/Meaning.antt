@@ -1,5 +1,6 @@
 -- What the critical speed is: missing exactly when a needed point is, else every point by its weight, and between the least and the greatest
 -- of those needed.
+use Rattle.std.specs.Prelude.{Some, None}
 use mathlib.Core.Path.{◌≡◌, ap, ap₂, sym, ◌∙◌}
 use mathlib.Core.Logic.{⊎_elim}
 use Prim.Native.Nat.{ℕ, ◌+◌, ◌-◌, ◌*◌, ◌/◌, ◌≤◌, ◌<◌}
@@ -7,7 +8,6 @@ use native.Mathlib.Nat.{mul-pos, mul-one, sub-zero, sub_self}
 use native.Mathlib.Omega.{arith}
 use Rattle.datum.specs.Datum.{dug}
 use Rattle.speed.specs.declared.Section.{Section}
-use Rattle.speed.specs.declared.Speed.TheVariants.{Parts, Missing}
 use Rattle.speed.specs.Lines.{parts_of, times}
 use Rattle.speed.specs.Table.{shallow_point, full_point}
 use Rattle.speed.specs.Critical.{shallow_speed, full_speed, critical_speed, whole}
@@ -62,7 +62,7 @@ shallow_sum a depth lines g enough =
     moved w s = omega arith
 
 module _ (q : Section) where
-  pub critical_missing : critical_speed q ≡ Missing → Lacking q
+  pub critical_missing : critical_speed q ≡ None → Lacking q
   unfolding critical_speed
   critical_missing e =
       ⊎_elim
@@ -75,7 +75,7 @@ module _ (q : Section) where
       of_full i j k (mul-pos needed far) point)
       (weighed_missing _ _ _ _ e)
 
-  pub lacking_critical : Lacking q → critical_speed q ≡ Missing
+  pub lacking_critical : Lacking q → critical_speed q ≡ None
   unfolding critical_speed
   lacking_critical (of_shallow k h e) =
       let (row, near) = both_some (20000 * weight 100 q.cut.0 k) (kept q) h in
@@ -99,7 +99,7 @@ module _ (q : Section) where
       rw (all, sub_self) (weighed_next _ _ _ some)
 
   -- the parts are formula (2) over the two tables' parts
-  critical_known : (n : ℕ) → critical_speed q ≡ Parts n
+  critical_known : (n : ℕ) → critical_speed q ≡ Some n
       → n ≡ over_tables q (λ k. parts_of (shallow_point k)) (λ i j k. parts_of (full_point i j k))
   unfolding critical_speed
   critical_known =
@@ -132,13 +132,13 @@ module _ (q : Section) where
   pub critical_between : (lo hi n : ℕ)
       → ((k : ℕ) → 0 < shallow_weight q k → (lo ≤ parts_of (shallow_point k)) × (parts_of (shallow_point k) ≤ hi))
       → ((i j k : ℕ) → 0 < full_weight q i j k → (lo ≤ parts_of (full_point i j k)) × (parts_of (full_point i j k) ≤ hi))
-      → critical_speed q ≡ Parts n → (lo * whole q.cut.0 ≤ n) × (n ≤ hi * whole q.cut.0)
+      → critical_speed q ≡ Some n → (lo * whole q.cut.0 ≤ n) × (n ≤ hi * whole q.cut.0)
   critical_between lo hi n row sections known = rw (critical_known n known) (tables_between _ _ lo hi row sections)
 
   -- over so many lines that all with weight are among them
   module _ (lines : ℕ) (widths : q.width / 5000 + 1 < lines) (slopes : q.slope / 4 + 1 < lines) (depths : q.cut.0 / 100 + 1 < lines) where
     -- the parts are those of every point, by its weight
-    pub critical_weighted : (n : ℕ) → critical_speed q ≡ Parts n
+    pub critical_weighted : (n : ℕ) → critical_speed q ≡ Some n
         → n ≡ sum lines (λ k. shallow_weight q k * parts_of (shallow_point k))
         + sum lines (λ i. sum lines (λ j. sum lines (λ k. full_weight q i j k * parts_of (full_point i j k))))
     critical_weighted n known = critical_known n known ∙ tables_sum _ _ lines widths slopes depths

@@ -1,5 +1,6 @@
 -- What the critical speed promises (sections 8 and 13), each cited from its proof. `shallow_speed`, `full_speed`, `critical_speed`, `check_of`,
 -- `parts_shown` (of `parts_of`) and `speed_fault_number` are what the calls of like names ensure.
+use Rattle.std.specs.Prelude.{Unit, tt, Option, Some, None, Result, Ok}
 use mathlib.Core.Path.{◌≡◌, sym}
 use mathlib.Core.Logic.{◌↔◌, ◌≢◌}
 use Prim.Native.Nat.{ℕ, ◌+◌, ◌*◌, ◌/◌, ◌≤◌, ◌<◌}
@@ -14,12 +15,8 @@ use Rattle.speed.specs.Orders.{AnyOrder}
 use Rattle.speed.specs.Weights.{weight, shallow_weight, full_weight, Lacking, sum}
 use Rattle.speed.specs.Refusals.{speed_fault_number, check_number, speed_rows}
 use Rattle.speed.specs.declared.Section.{Section}
-use Rattle.speed.specs.declared.Speed.{Speed}
-use Rattle.speed.specs.declared.Speed.TheVariants.{Parts, Missing}
 use Rattle.speed.specs.declared.SpeedParts.{SpeedParts}
 use Rattle.speed.specs.declared.SpeedFault.{SpeedFault}
-use Rattle.speed.specs.declared.SpeedCheck.{SpeedCheck}
-use Rattle.speed.specs.declared.SpeedCheck.TheVariants.{Allowed}
 use Rattle.speed.proofs.table.Facts as the-table
 use Rattle.speed.proofs.lines.Straight.{straight_only, straight_between}
 use Rattle.speed.proofs.lines.Orders.{any_order}
@@ -31,23 +28,23 @@ use Rattle.speed.proofs.Ways.{unasked}
 
 -- The table
 -- Shallow water has a speed at each whole metre from 4 to 16, and never a lesser one at a greater depth.
-pub shallow_filled : (metres : ℕ) → 4 ≤ metres → metres ≤ 16 → (tenths : ℕ) × (shallow_point metres ≡ Parts tenths)
+pub shallow_filled : (metres : ℕ) → 4 ≤ metres → metres ≤ 16 → (tenths : ℕ) × (shallow_point metres ≡ Some tenths)
 shallow_filled = the-table.shallow_there
 
-pub shallow_never_falls : (metres deeper m n : ℕ) → shallow_point metres ≡ Parts m → shallow_point deeper ≡ Parts n → metres ≤ deeper → m ≤ n
+pub shallow_never_falls : (metres deeper m n : ℕ) → shallow_point metres ≡ Some m → shallow_point deeper ≡ Some n → metres ≤ deeper → m ≤ n
 shallow_never_falls = the-table.shallow_rises
 
 -- The blanks of a full section's row come first: below a figure stand figures, down to 16 m.
-pub blanks_first : (width slope metres deeper m : ℕ) → full_point width slope metres ≡ Parts m → metres ≤ deeper → deeper ≤ 16
-    → (n : ℕ) × (full_point width slope deeper ≡ Parts n)
+pub blanks_first : (width slope metres deeper m : ℕ) → full_point width slope metres ≡ Some m → metres ≤ deeper → deeper ≤ 16
+    → (n : ℕ) × (full_point width slope deeper ≡ Some n)
 blanks_first = the-table.deeper_is_there
 
 -- A wider or flatter section is never slower at a depth, and none is faster than shallow water.
-pub wider_never_slower : (width slope metres wider flatter m n : ℕ) → full_point width slope metres ≡ Parts m → full_point wider flatter metres ≡ Parts n
+pub wider_never_slower : (width slope metres wider flatter m n : ℕ) → full_point width slope metres ≡ Some m → full_point wider flatter metres ≡ Some n
     → width ≤ wider → slope ≤ flatter → m ≤ n
 wider_never_slower = the-table.wider_no_slower
 
-pub full_never_faster : (width slope metres m n : ℕ) → full_point width slope metres ≡ Parts m → shallow_point metres ≡ Parts n → m ≤ n
+pub full_never_faster : (width slope metres m n : ℕ) → full_point width slope metres ≡ Some m → shallow_point metres ≡ Some n → m ≤ n
 full_never_faster = the-table.full_no_faster
 
 -- Straight lines
@@ -59,16 +56,16 @@ pub at_a_full_point : (width slope metres : ℕ) → full_speed (width * 5000) (
 at_a_full_point = the-speed.at_full_point
 
 -- Between two points it lies between them: where those with weight are from low to high, so is the line.
-pub line_between : (step x : ℕ) → 0 < step → (at : ℕ → Speed) (low high n : ℕ)
+pub line_between : (step x : ℕ) → 0 < step → (at : ℕ → Option ℕ) (low high n : ℕ)
     → ((k : ℕ) → 0 < weight step x k → (low ≤ parts_of (at k)) × (parts_of (at k) ≤ high))
-    → straight step x at ≡ Parts n → (low * step ≤ n) × (n ≤ high * step)
+    → straight step x at ≡ Some n → (low * step ≤ n) × (n ≤ high * step)
 line_between = straight_between
 
 -- The weights of a grid's lines add up to the whole step, and a line without weight changes nothing.
 pub line_weights : (step x lines : ℕ) → 0 < step → x / step + 1 < lines → sum lines (weight step x) ≡ step
 line_weights = weights_add_up
 
-pub weightless_unasked : (step x : ℕ) → 0 < step → (f g : ℕ → Speed) → ((k : ℕ) → 0 < weight step x k → f k ≡ g k) → straight step x f ≡ straight step x g
+pub weightless_unasked : (step x : ℕ) → 0 < step → (f g : ℕ → Option ℕ) → ((k : ℕ) → 0 < weight step x k → f k ≡ g k) → straight step x f ≡ straight step x g
 weightless_unasked = straight_only
 
 -- The order in which the straight lines are drawn does not matter: the full section's speed is that of each of the other five.
@@ -84,12 +81,12 @@ pub all_dug_is_full : (q : Section) → 0 < q.cut.0 → q.natural.0 ≡ 0 → cr
 all_dug_is_full = the-speed.all_dug
 
 -- It is missing exactly when a needed point, one whose weight is not 0, is blank or outside the table.
-pub missing_exactly : (q : Section) → (critical_speed q ≡ Missing) ↔ Lacking q
+pub missing_exactly : (q : Section) → (critical_speed q ≡ None) ↔ Lacking q
 missing_exactly q = (the-speed.critical_missing q, the-speed.lacking_critical q)
 
 -- Else it is the sum of the points' figures by their weights, over as many lines as there are; and the weights add up to the whole.
 module _ (q : Section) (lines : ℕ) (width : q.width / 5000 + 1 < lines) (slope : q.slope / 4 + 1 < lines) (depth : q.cut.0 / 100 + 1 < lines) where
-  pub known_is_weighted : (n : ℕ) → critical_speed q ≡ Parts n
+  pub known_is_weighted : (n : ℕ) → critical_speed q ≡ Some n
       → n ≡ sum lines (λ k. shallow_weight q k * parts_of (shallow_point k))
       + sum lines (λ i. sum lines (λ j. sum lines (λ k. full_weight q i j k * parts_of (full_point i j k))))
   known_is_weighted = the-speed.critical_weighted q lines width slope depth
@@ -101,7 +98,7 @@ module _ (q : Section) (lines : ℕ) (width : q.width / 5000 + 1 < lines) (slope
 pub between_its_points : (q : Section) (low high n : ℕ)
     → ((k : ℕ) → 0 < shallow_weight q k → (low ≤ parts_of (shallow_point k)) × (parts_of (shallow_point k) ≤ high))
     → ((i j k : ℕ) → 0 < full_weight q i j k → (low ≤ parts_of (full_point i j k)) × (parts_of (full_point i j k) ≤ high))
-    → critical_speed q ≡ Parts n → (low * whole q.cut.0 ≤ n) × (n ≤ high * whole q.cut.0)
+    → critical_speed q ≡ Some n → (low * whole q.cut.0 ≤ n) × (n ≤ high * whole q.cut.0)
 between_its_points = the-speed.critical_between
 
 -- The check
@@ -110,30 +107,30 @@ pub number_16_17 : (q : Section) (knots : ℕ) → Exactly (speed_rows q knots) 
 number_16_17 = check_exactly
 
 -- A slope of 0 asks for no check.
-pub no_slope_no_check : (q : Section) (knots : ℕ) → q.slope ≡ 0 → check_of q knots ≡ Allowed
+pub no_slope_no_check : (q : Section) (knots : ℕ) → q.slope ≡ 0 → check_of q knots ≡ (Ok tt)
 no_slope_no_check q knots none = sym (unasked q knots none)
 
 -- At a known speed a ship is allowed exactly when knots × 1,852 / 3,600 metres a second is at most nine tenths of it; equal is allowed.
-pub allowed_to_nine_tenths : (q : Section) (knots parts : ℕ) → q.slope ≢ 0 → critical_speed q ≡ Parts parts
-    → (check_of q knots ≡ Allowed) ↔ (100 * (knots * 1852) * whole q.cut.0 ≤ 9 * parts * 3600)
+pub allowed_to_nine_tenths : (q : Section) (knots parts : ℕ) → q.slope ≢ 0 → critical_speed q ≡ Some parts
+    → (check_of q knots ≡ (Ok tt)) ↔ (100 * (knots * 1852) * whole q.cut.0 ≤ 9 * parts * 3600)
 allowed_to_nine_tenths = allowed_exactly
 
 -- A ship is allowed exactly up to the fastest speed that is shown, in hundredths of a knot.
 pub allowed_to_the_fastest : (q : Section) (knots : ℕ) → q.slope ≢ 0 → 0 < q.cut.0
-    → (check_of q knots ≡ Allowed) ↔ ((hundredths : ℕ) × ((parts_shown q).fastest ≡ Parts hundredths) × (100 * knots ≤ hundredths))
+    → (check_of q knots ≡ (Ok tt)) ↔ ((hundredths : ℕ) × ((parts_shown q).fastest ≡ Some hundredths) × (100 * knots ≤ hundredths))
 allowed_to_the_fastest = allowed_to_fastest
 
 -- One answer of each call.
-pub shallow_speed_unique : (depth : ℕ) (r t : Speed) → r ≡ shallow_speed depth → t ≡ shallow_speed depth → r ≡ t
+pub shallow_speed_unique : (depth : ℕ) (r t : Option ℕ) → r ≡ shallow_speed depth → t ≡ shallow_speed depth → r ≡ t
 shallow_speed_unique depth = one_answer
 
-pub full_speed_unique : (width slope depth : ℕ) (r t : Speed) → r ≡ full_speed width slope depth → t ≡ full_speed width slope depth → r ≡ t
+pub full_speed_unique : (width slope depth : ℕ) (r t : Option ℕ) → r ≡ full_speed width slope depth → t ≡ full_speed width slope depth → r ≡ t
 full_speed_unique width slope depth = one_answer
 
-pub critical_speed_unique : (q : Section) (r t : Speed) → r ≡ critical_speed q → t ≡ critical_speed q → r ≡ t
+pub critical_speed_unique : (q : Section) (r t : Option ℕ) → r ≡ critical_speed q → t ≡ critical_speed q → r ≡ t
 critical_speed_unique q = one_answer
 
-pub check_unique : (q : Section) (knots : ℕ) (r t : SpeedCheck) → r ≡ check_of q knots → t ≡ check_of q knots → r ≡ t
+pub check_unique : (q : Section) (knots : ℕ) (r t : Result (Unit {0}) SpeedFault) → r ≡ check_of q knots → t ≡ check_of q knots → r ≡ t
 check_unique q knots = one_answer
 
 pub parts_unique : (q : Section) (r t : SpeedParts) → r ≡ parts_shown q → t ≡ parts_shown q → r ≡ t

@@ -1,4 +1,5 @@
 -- The parts that are shown: a speed over a divisor, and that a ship is allowed exactly up to the fastest.
+use Rattle.std.specs.Prelude.{tt, Option, Some, None, Ok, Err}
 use mathlib.Core.Path.{◌≡◌, refl, sym}
 use mathlib.Core.Bool.{Bool, true, false}
 use mathlib.Core.Logic.{◌↔◌, ◌≢◌}
@@ -12,15 +13,12 @@ use Rattle.laws.proofs.Never.{never}
 use Rattle.speed.specs.Critical.{critical_speed, whole, check_of}
 use Rattle.speed.specs.Shown.{quotient, over, fastest_speed, parts_shown}
 use Rattle.speed.specs.declared.Section.{Section}
-use Rattle.speed.specs.declared.Speed.{Speed}
-use Rattle.speed.specs.declared.Speed.TheVariants.{Parts, Missing}
 use Rattle.speed.specs.declared.SpeedFault.TheVariants.{PointMissing}
-use Rattle.speed.specs.declared.SpeedCheck.TheVariants.{Allowed, NotAllowed}
 use Rattle.speed.proofs.Ways.{by_speed_lem}
 use Rattle.speed.proofs.Refusals.{allowed_exactly}
 
-module _ (divisor : ℕ) (speed : Speed) where
-  pub over_none : divisor ≡ 0 → Missing ≡ over divisor speed
+module _ (divisor : ℕ) (speed : Option ℕ) where
+  pub over_none : divisor ≡ 0 → None ≡ over divisor speed
   unfolding over
   over_none none = rw (eq-eqb divisor 0 none)
 
@@ -28,11 +26,11 @@ module _ (divisor : ℕ) (speed : Speed) where
   unfolding over
   over_some some = rw (ne_eqb divisor 0 some)
 
-pub over_missing : (divisor : ℕ) → Missing ≡ over divisor Missing
+pub over_missing : (divisor : ℕ) → None ≡ over divisor None
 unfolding over
 over_missing divisor = go (eqb divisor 0)
   where
-    go : (b : Bool) → Missing ≡ (ifᵇ b then Missing else Missing)
+    go : (b : Bool) → None ≡ (ifᵇ b then None else None)
     go true = refl
     go false = refl
 
@@ -44,20 +42,20 @@ module _ (cut knots : ℕ) (some : 0 < cut) where
       let divided = le-div_iff_mul-le {k = 1852 * whole cut} {x = 100 * knots} {y = 9 * 3600 * parts} (omega arith) in
       (λ h. divided.1 (omega arith), λ h. omega (arith, divided.0 h))
 
-  known : (parts : ℕ) → fastest_speed cut (Parts parts) ≡ Parts (9 * 3600 * parts / (1852 * whole cut))
+  known : (parts : ℕ) → fastest_speed cut (Some parts) ≡ Some (9 * 3600 * parts / (1852 * whole cut))
   unfolding fastest_speed
-  known parts = sym (over_some (1852 * whole cut) (Parts (9 * 3600 * parts)) (λ e. omega arith))
+  known parts = sym (over_some (1852 * whole cut) (Some (9 * 3600 * parts)) (λ e. omega arith))
 
-pub none_known : (cut : ℕ) → fastest_speed cut Missing ≡ Missing
+pub none_known : (cut : ℕ) → fastest_speed cut None ≡ None
 unfolding fastest_speed
 none_known cut = sym (over_missing (1852 * whole cut))
 
 module _ (q : Section) (knots : ℕ) (asked : q.slope ≢ 0) (some : 0 < q.cut.0) where
-  abbrev UpTo : Speed → Type 0
-  UpTo fastest = (hundredths : ℕ) × (fastest ≡ Parts hundredths) × (100 * knots ≤ hundredths)
+  abbrev UpTo : Option ℕ → Type 0
+  UpTo fastest = (hundredths : ℕ) × (fastest ≡ Some hundredths) × (100 * knots ≤ hundredths)
 
-  by_case : (speed : Speed) → critical_speed q ≡ speed → (check_of q knots ≡ Allowed) ↔ UpTo (fastest_speed q.cut.0 speed)
-  by_case (Parts parts) is =
+  by_case : (speed : Option ℕ) → critical_speed q ≡ speed → (check_of q knots ≡ (Ok tt)) ↔ UpTo (fastest_speed q.cut.0 speed)
+  by_case (Some parts) is =
       let exactly = allowed_exactly q knots parts asked is in
       let most = at_most q.cut.0 knots some parts in (
         (λ e. (_, known q.cut.0 knots some parts, most.0 (exactly.0 e))),
@@ -65,12 +63,12 @@ module _ (q : Section) (knots : ℕ) (asked : q.slope ≢ 0) (some : 0 < q.cut.0
             let same : u.0 ≡ 9 * 3600 * parts / (1852 * whole q.cut.0) = cc (known q.cut.0 knots some parts, u.1) in
             exactly.1 (most.1 (rw same at u.2))),
       )
-  by_case Missing is =
-      let refused = by_speed_lem q knots asked Missing Missing (NotAllowed PointMissing) refl (sym is) refl in (
+  by_case None is =
+      let refused = by_speed_lem q knots asked None None (Err PointMissing) refl (sym is) refl in (
         (λ e. never cc),
         (λ u. never (cc (none_known q.cut.0, u.1))),
       )
 
-  pub allowed_to_fastest : (check_of q knots ≡ Allowed) ↔ UpTo (parts_shown q).fastest
+  pub allowed_to_fastest : (check_of q knots ≡ (Ok tt)) ↔ UpTo (parts_shown q).fastest
   unfolding parts_shown
   allowed_to_fastest = by_case (critical_speed q) refl

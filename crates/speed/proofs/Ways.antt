@@ -1,30 +1,29 @@
 -- Each way out of the check, as the definition has it: without a slope, by the speed, and at a speed by its one test.
+use Rattle.std.specs.Prelude.{Unit, tt, Option, Result, Ok, Err}
 use mathlib.Core.Path.{◌≡◌, ap, sym, ◌∙◌}
 use mathlib.Core.Logic.{◌≢◌}
 use Prim.Native.Nat.{ℕ, ◌*◌, ◌≤◌, ◌<◌}
 use borrow.Author.Tests.{eq-eqb, ne_eqb, lt-ltb, le-ltb}
 use Rattle.speed.specs.Critical.{critical_speed, whole, against, by_speed, check_of}
 use Rattle.speed.specs.declared.Section.{Section}
-use Rattle.speed.specs.declared.Speed.{Speed}
 use Rattle.speed.specs.declared.SpeedFault.TheVariants.{TooFast}
-use Rattle.speed.specs.declared.SpeedCheck.{SpeedCheck}
-use Rattle.speed.specs.declared.SpeedCheck.TheVariants.{Allowed, NotAllowed}
+use Rattle.speed.specs.declared.SpeedFault.{SpeedFault}
 
 module _ (parts cut knots : ℕ) where
-  pub too_fast : 9 * parts * 3600 < 100 * (knots * 1852) * whole cut → NotAllowed TooFast ≡ against parts cut knots
+  pub too_fast : 9 * parts * 3600 < 100 * (knots * 1852) * whole cut → Err TooFast ≡ against parts cut knots
   unfolding against
   too_fast more = rw (lt-ltb _ _ more)
 
-  pub within : 100 * (knots * 1852) * whole cut ≤ 9 * parts * 3600 → Allowed ≡ against parts cut knots
+  pub within : 100 * (knots * 1852) * whole cut ≤ 9 * parts * 3600 → (Ok tt) ≡ against parts cut knots
   unfolding against
   within most = rw (le-ltb _ _ most)
 
 module _ (q : Section) (knots : ℕ) where
-  pub unasked : q.slope ≡ 0 → Allowed ≡ check_of q knots
+  pub unasked : q.slope ≡ 0 → (Ok tt) ≡ check_of q knots
   unfolding check_of
   unasked none = rw (eq-eqb _ _ none)
 
-  pub by_speed_lem : q.slope ≢ 0 → (speed found : Speed) (r : SpeedCheck) → speed ≡ found → speed ≡ critical_speed q → r ≡ by_speed q.cut.0 knots found
+  pub by_speed_lem : q.slope ≢ 0 → (speed found : Option ℕ) (r : Result (Unit {0}) SpeedFault) → speed ≡ found → speed ≡ critical_speed q → r ≡ by_speed q.cut.0 knots found
       → r ≡ check_of q knots
   unfolding check_of
   by_speed_lem asked speed found r e is g = rw (ne_eqb _ _ asked) (g ∙ ap (by_speed q.cut.0 knots) (sym e ∙ is))

@@ -1,12 +1,9 @@
 -- What turns a sheet away here (section 8): each row's number, and what it means.
-use Rattle.std.specs.Prelude.{◌≡◌, List, [], ◌∷◌, ◌≢◌, ℕ, ◌*◌, ◌<◌}
+use Rattle.std.specs.Prelude.{◌≡◌, List, [], ◌∷◌, ◌≢◌, ℕ, ◌*◌, ◌<◌, Unit, tt, Some, Result, Ok, Err}
 use Rattle.laws.specs.Rows.{Row, ◌when◌}
 use Rattle.speed.specs.declared.Section.{Section}
-use Rattle.speed.specs.declared.Speed.TheVariants.{Parts}
 use Rattle.speed.specs.declared.SpeedFault.{SpeedFault}
 use Rattle.speed.specs.declared.SpeedFault.TheVariants.{PointMissing, TooFast as TooFastFault}
-use Rattle.speed.specs.declared.SpeedCheck.{SpeedCheck}
-use Rattle.speed.specs.declared.SpeedCheck.TheVariants.{Allowed, NotAllowed}
 use Rattle.speed.specs.Critical.{critical_speed, whole}
 use Rattle.speed.specs.Weights.{Lacking}
 
@@ -16,9 +13,9 @@ speed_fault_number PointMissing = 16
 speed_fault_number TooFastFault = 17
 
 -- the number of a check, 0 for none
-abbrev pub check_number : SpeedCheck → ℕ
-check_number Allowed = 0
-check_number (NotAllowed fault) = speed_fault_number fault
+abbrev pub check_number : Result (Unit {0}) SpeedFault → ℕ
+check_number (Ok tt) = 0
+check_number (Err fault) = speed_fault_number fault
 
 -- 16: a needed point is blank or outside the table; only where a slope asks for the check
 pub record PointLacking (q : Section) : Type 0 where
@@ -30,7 +27,7 @@ pub record PointLacking (q : Section) : Type 0 where
 pub record TooFast (q : Section) (knots : ℕ) : Type 0 where
   pub asked : q.slope ≢ 0
   pub parts : ℕ
-  pub speed : critical_speed q ≡ Parts parts
+  pub speed : critical_speed q ≡ Some parts
   pub more : 9 * parts * 3600 < 100 * (knots * 1852) * whole q.cut.0
 
 -- the rows that a check has, in their order

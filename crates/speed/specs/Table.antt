@@ -1,8 +1,6 @@
 -- Table 2a of document 001 (section 13.1): critical speeds in tenths of a metre a second, by bottom width, side slope and depth.
-use Rattle.std.specs.Prelude.{ℕ, ◌+◌, ◌-◌, ◌*◌, Bool, ◌||◌, List, [], ◌∷◌, get_or, replicate}
+use Rattle.std.specs.Prelude.{ℕ, ◌+◌, ◌-◌, ◌*◌, Bool, ◌||◌, List, [], ◌∷◌, get_or, replicate, Option, Some, None}
 use Rattle.laws.specs.Choice.{ifᵇ◌then◌else◌, ◌<ᵇ◌, ◌=ᵇ◌}
-use Rattle.speed.specs.declared.Speed.{Speed}
-use Rattle.speed.specs.declared.Speed.TheVariants.{Parts, Missing}
 
 -- a dash of the table: no entry
 abbrev pub dash : ℕ
@@ -44,16 +42,16 @@ full_row width slope =
     else (ifᵇ outside slope 1 3 then replicate 13 dash else get_or full_table (3 * (width - 1) + (slope - 1)) [])
 
 -- what stands in the table, as a speed: a dash is none
-unfoldable pub entry : ℕ → Speed
-entry figure = ifᵇ figure =ᵇ dash then Missing else Parts figure
+unfoldable pub entry : ℕ → Option ℕ
+entry figure = ifᵇ figure =ᵇ dash then None else Some figure
 
 -- the point of a row at a depth in whole metres, 4 to 16: missing at a dash, and outside
-unfoldable pub point_of : List ℕ → ℕ → Speed
-point_of row metres = ifᵇ outside metres 4 16 then Missing else entry (get_or row (metres - 4) 0)
+unfoldable pub point_of : List ℕ → ℕ → Option ℕ
+point_of row metres = ifᵇ outside metres 4 16 then None else entry (get_or row (metres - 4) 0)
 
 -- a point of the shallow row, and one of the full sections, by their lines
-abbrev pub shallow_point : ℕ → Speed
+abbrev pub shallow_point : ℕ → Option ℕ
 shallow_point metres = point_of shallow_row metres
 
-abbrev pub full_point : ℕ → ℕ → ℕ → Speed
+abbrev pub full_point : ℕ → ℕ → ℕ → Option ℕ
 full_point width slope metres = point_of (full_row width slope) metres

@@ -1,8 +1,7 @@
 -- The weight of a point of the table in the critical speed (section 13.3): which points are needed.
-use Rattle.std.specs.Prelude.{◌≡◌, ℕ, zero, suc, ◌+◌, ◌-◌, ◌*◌, ◌<◌}
+use Rattle.std.specs.Prelude.{◌≡◌, ℕ, zero, suc, ◌+◌, ◌-◌, ◌*◌, ◌<◌, None}
 use Rattle.datum.specs.Datum.{dug}
 use Rattle.speed.specs.declared.Section.{Section}
-use Rattle.speed.specs.declared.Speed.TheVariants.{Missing}
 use Rattle.speed.specs.Table.{shallow_point, full_point}
 
 -- the weight of line k of a grid at x: the step less the distance of x from the line, or 0 if negative
@@ -19,8 +18,8 @@ full_weight q width slope metres =
 
 -- a point that is needed, as its weight is not 0, is blank or outside the table
 pub data Lacking (q : Section) : Type 0 where
-  of_shallow : (metres : ℕ) → 0 < shallow_weight q metres → shallow_point metres ≡ Missing → Lacking q
-  of_full : (width slope metres : ℕ) → 0 < full_weight q width slope metres → full_point width slope metres ≡ Missing → Lacking q
+  of_shallow : (metres : ℕ) → 0 < shallow_weight q metres → shallow_point metres ≡ None → Lacking q
+  of_full : (width slope metres : ℕ) → 0 < full_weight q width slope metres → full_point width slope metres ≡ None → Lacking q
 
 -- a sum over the first lines of a grid
 abbrev pub sum : ℕ → (ℕ → ℕ) → ℕ

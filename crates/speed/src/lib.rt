@@ -23,13 +23,6 @@ pub struct Section {
     pub slope: u8,
 }
 
-// A speed as so many parts of a whole, in tenths of a metre a second; or that a point of the table that it needs is blank or outside.
-#[derive(Clone, Copy)]
-pub enum Speed {
-    Parts(u64),
-    Missing,
-}
-
 // Why a speed is not allowed: a needed point of the table is blank or outside, or the ship is too fast.
 #[derive(Clone, Copy)]
 pub enum SpeedFault {
@@ -37,22 +30,15 @@ pub enum SpeedFault {
     TooFast,
 }
 
-// What the check of a speed comes to.
-#[derive(Clone, Copy)]
-pub enum SpeedCheck {
-    Allowed,
-    NotAllowed(SpeedFault),
-}
-
 // What a critical speed is joined from, as a sheet shows it: h in cm, V', V'' and the joined speed in whole mm a second, and the fastest
 // that a ship may go, nine tenths of the joined speed, in hundredths of a knot; all rounded down.
 #[derive(Clone, Copy)]
 pub struct SpeedParts {
     pub dug: u16,
-    pub shallow: Speed,
-    pub full: Speed,
-    pub critical: Speed,
-    pub fastest: Speed,
+    pub shallow: Option<u64>,
+    pub full: Option<u64>,
+    pub critical: Option<u64>,
+    pub fastest: Option<u64>,
 }
 
 // The number that turns a sheet away for a fault.
@@ -66,7 +52,7 @@ pub fn speed_fault_number(fault: SpeedFault) -> u8
 }
 
 // V', the critical speed of shallow water at a depth, in hundredths.
-pub fn shallow_speed(depth: BelowLevel) -> Speed
+pub fn shallow_speed(depth: BelowLevel) -> Option<u64>
     ensures value { result ≡ shallow_speed depth.0 }
     ensures small { parts_of result ≤ 25500 }
 {
@@ -74,7 +60,7 @@ pub fn shallow_speed(depth: BelowLevel) -> Speed
 }
 
 // V'', the critical speed of a full section, in parts of 5,000 × 4 × 100: the straight line between two widths.
-pub fn full_speed(width: u32, slope: u8, depth: BelowLevel) -> Speed
+pub fn full_speed(width: u32, slope: u8, depth: BelowLevel) -> Option<u64>
     ensures value { result ≡ full_speed width slope depth.0 }
     ensures small { parts_of result ≤ 510000000 }
 {
@@ -96,7 +82,7 @@ fn dug_of(natural: BelowLevel, cut: BelowLevel) -> u16
 }
 
 // The joined speed (V' × (cut - h) + V'' × h) / cut, in parts of 5,000 × 4 × 100 × cut; V' comes in hundredths, and goes into it 5,000 × 4 times.
-pub fn critical_speed(section: Section) -> Speed
+pub fn critical_speed(section: Section) -> Option<u64>
     ensures value { result ≡ critical_speed section }
     ensures small { parts_of result < 2 ^ 46 }
 {
@@ -110,56 +96,56 @@ pub fn critical_speed(section: Section) -> Speed
 
 // Knots × 1,852 / 3,600 metres a second may be nine tenths of the speed, and no more. Both sides stand times 100 × 3,600 × the whole, as
 // the parts are tenths of a metre a second.
-fn against_of(parts: u64, cut: u16, knots: u8) -> SpeedCheck
+fn against_of(parts: u64, cut: u16, knots: u8) -> Result<(), SpeedFault>
     requires { parts < 2 ^ 46 }
     ensures { result ≡ against parts cut knots }
 {
     if 9 * parts * 3600 < 100 * (knots as u64 * 1852) * (2000000 * cut as u64) {
-        return SpeedCheck::NotAllowed(SpeedFault::TooFast);
+        return Err(SpeedFault::TooFast);
     }
-    SpeedCheck::Allowed
+    Ok(())
 }
 
 // The check of a ship's speed in a section; a slope of 0 asks for none.
 #[tactic(auto, using(crate::proofs::Ways::unasked))]
-pub fn check_speed(section: Section, knots: u8) -> SpeedCheck
+pub fn check_speed(section: Section, knots: u8) -> Result<(), SpeedFault>
     ensures { result ≡ check_of section knots }
 {
     if section.slope == 0 {
-        return SpeedCheck::Allowed;
+        return Ok(());
     }
     let cut = section.cut;
     let speed = critical_speed(section);
     match speed {
-        Speed::Parts(parts) => against_of(parts, cut.0, knots),
-        Speed::Missing => SpeedCheck::NotAllowed(SpeedFault::PointMissing),
+        Some(parts) => against_of(parts, cut.0, knots),
+        None => Err(SpeedFault::PointMissing),
     }
 }
 
 // A speed over a divisor, rounded down; a divisor of 0 gives none.
-fn over_of(divisor: u64, speed: Speed) -> Speed
+fn over_of(divisor: u64, speed: Option<u64>) -> Option<u64>
     ensures { result ≡ over divisor speed }
 {
     if divisor == 0 {
-        return Speed::Missing;
+        return None;
     }
     match speed {
-        Speed::Parts(parts) => Speed::Parts(parts / divisor),
-        Speed::Missing => Speed::Missing,
+        Some(parts) => Some(parts / divisor),
+        None => None,
     }
 }
 
 // Nine tenths of a joined speed in hundredths of a knot of 1,852 m in 3,600 s, rounded down.
-fn fastest_of(cut: u16, speed: Speed) -> Speed
+fn fastest_of(cut: u16, speed: Option<u64>) -> Option<u64>
     requires { parts_of speed < 2 ^ 46 }
     ensures { result ≡ fastest_speed cut speed }
 {
     match speed {
-        Speed::Parts(parts) => over_of(
+        Some(parts) => over_of(
             1852 * (2000000 * cut as u64),
-            Speed::Parts(9 * 3600 * parts),
+            Some(9 * 3600 * parts),
         ),
-        Speed::Missing => Speed::Missing,
+        None => None,
     }
 }
 

@@ -3,47 +3,47 @@ ghost use Rattle.std.specs.Prelude.{◌≡◌, ◌+◌, ◌*◌, ◌^◌, ◌≤
 ghost use Rattle.speed.specs.Lines.{parts_of, times, part, together, weighed};
 ghost use Rattle.speed.specs.Critical.{row_speed, slope_speed};
 
-use crate::{Speed, table};
+use crate::table;
 
 // So many times a speed.
-pub fn times_of(weight: u64, speed: Speed) -> Speed
+pub fn times_of(weight: u64, speed: Option<u64>) -> Option<u64>
     requires { (weight < 2 ^ 16) × (parts_of speed < 2 ^ 29) }
     ensures { result ≡ times weight speed }
 {
     match speed {
-        Speed::Parts(parts) => Speed::Parts(weight * parts),
-        Speed::Missing => Speed::Missing,
+        Some(parts) => Some(weight * parts),
+        None => None,
     }
 }
 
 // The part of a speed that has a weight; one without weight is not asked for.
 #[tactic(auto, using(crate::proofs::lines::Weighing::part_none, crate::proofs::lines::Weighing::part_some))]
-fn part_of(weight: u64, speed: Speed) -> Speed
+fn part_of(weight: u64, speed: Option<u64>) -> Option<u64>
     requires { (weight < 2 ^ 16) × (parts_of speed < 2 ^ 29) }
     ensures { result ≡ part weight speed }
 {
     if weight == 0 {
-        return Speed::Parts(0);
+        return Some(0);
     }
     times_of(weight, speed)
 }
 
 // Two parts together.
-fn together_of(one: Speed, other: Speed) -> Speed
+fn together_of(one: Option<u64>, other: Option<u64>) -> Option<u64>
     requires { (parts_of one < 2 ^ 45) × (parts_of other < 2 ^ 45) }
     ensures { result ≡ together one other }
 {
     match one {
-        Speed::Missing => Speed::Missing,
-        Speed::Parts(first) => match other {
-            Speed::Missing => Speed::Missing,
-            Speed::Parts(second) => Speed::Parts(first + second),
+        None => None,
+        Some(first) => match other {
+            None => None,
+            Some(second) => Some(first + second),
         },
     }
 }
 
 // Two speeds, each by its weight.
-pub fn weighed_of(near: u64, here: Speed, far: u64, next: Speed) -> Speed
+pub fn weighed_of(near: u64, here: Option<u64>, far: u64, next: Option<u64>) -> Option<u64>
     requires { (near < 2 ^ 16) × ((far < 2 ^ 16) × ((parts_of here < 2 ^ 29) × (parts_of next < 2 ^ 29))) }
     ensures { result ≡ weighed near here far next }
 {
@@ -53,7 +53,7 @@ pub fn weighed_of(near: u64, here: Speed, far: u64, next: Speed) -> Speed
 }
 
 // A row's speed at a depth in cm, in hundredths: the straight line between two whole metres.
-pub fn row_speed(row: [u8; 13], depth: u16) -> Speed
+pub fn row_speed(row: [u8; 13], depth: u16) -> Option<u64>
     ensures value { result ≡ row_speed row depth }
     ensures small { parts_of result ≤ 25500 }
 {
@@ -65,7 +65,7 @@ pub fn row_speed(row: [u8; 13], depth: u16) -> Speed
 }
 
 // The speed of a full section at a width in lines of 50 m: the straight line between two slopes.
-pub fn slope_speed(width: u32, slope: u8, depth: u16) -> Speed
+pub fn slope_speed(width: u32, slope: u8, depth: u16) -> Option<u64>
     ensures value { result ≡ slope_speed width slope depth }
     ensures small { parts_of result ≤ 102000 }
 {

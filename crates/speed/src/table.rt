@@ -3,7 +3,6 @@ ghost use Rattle.std.specs.Prelude.{◌≡◌, ◌≤◌};
 ghost use Rattle.speed.specs.Table.{outside, full_row, entry, point_of};
 ghost use Rattle.speed.specs.Lines.{parts_of};
 
-use crate::Speed;
 
 // The mark of a dash: no entry of the table is 0.
 const DASH: u8 = 0;
@@ -56,21 +55,21 @@ pub fn full_row(width: u32, slope: u32) -> [u8; 13]
 
 // What stands in the table, as a speed: a dash is none.
 #[tactic(auto, using(crate::proofs::table::Grid::at_dash, crate::proofs::table::Grid::at_figure))]
-fn entered(figure: u8) -> Speed
+fn entered(figure: u8) -> Option<u64>
     ensures { (result ≡ entry figure) × (parts_of result ≤ 255) }
 {
     if figure == DASH {
-        return Speed::Missing;
+        return None;
     }
-    Speed::Parts(figure as u64)
+    Some(figure as u64)
 }
 
 // The point of a row at a depth in whole metres.
-pub fn point_of(row: [u8; 13], metres: u32) -> Speed
+pub fn point_of(row: [u8; 13], metres: u32) -> Option<u64>
     ensures { (result ≡ point_of row metres) × (parts_of result ≤ 255) }
 {
     if outside_of(metres, 4, 16) {
-        return Speed::Missing;
+        return None;
     }
     entered(row[metres as usize - 4])
 }

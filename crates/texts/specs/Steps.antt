@@ -1,13 +1,12 @@
 -- What a line brings (section 14.3).
-use Rattle.std.specs.Prelude.{ℕ, ◌+◌, ◌-◌, List, set}
+use Rattle.std.specs.Prelude.{ℕ, ◌+◌, ◌-◌, List, set, Result, Ok, Err}
 use Rattle.laws.specs.Choice.{ifᵇ◌then◌else◌, ◌<ᵇ◌, ◌=ᵇ◌}
 use Rattle.sheet.specs.Fields.{standing_of, count as field_count}
 use Rattle.sheet.specs.declared.Standing.{Standing}
 use Rattle.sheet.specs.declared.Standing.TheVariants.{Fine, Outside, Disagrees as DisagreesThere}
 use Rattle.typed.specs.Rows.{count, level_row}
 use Rattle.typed.specs.Reading.{entry_of, row_named}
-use Rattle.typed.specs.declared.Entry.{Entry}
-use Rattle.typed.specs.declared.Entry.TheVariants.{Figure, NoName as NameMissing, NoFigure as FigureMissing, NoUnit as UnitMissing}
+use Rattle.typed.specs.declared.EntryFault.TheVariants.{NoName as NameMissing, NoFigure as FigureMissing, NoUnit as UnitMissing}
 use Rattle.texts.specs.Cutting.{begins_sheet, passed_over}
 use Rattle.texts.specs.declared.Event.{Event}
 use Rattle.texts.specs.declared.Event.TheVariants.{Nothing, Sheet, Fault}
@@ -16,6 +15,7 @@ use Rattle.texts.specs.declared.LineFault.TheVariants.{NoSheet, Missing, NoName,
 use Rattle.texts.specs.declared.Stage.{Stage}
 use Rattle.texts.specs.declared.Stage.TheVariants.{Between, InRow, Skipping}
 use Rattle.texts.specs.declared.steps.Step.{Step}
+use Rattle.typed.specs.declared.EntryFault.{EntryFault}
 
 -- the number of a fault, without its T
 abbrev pub fault_number : LineFault → ℕ
@@ -64,11 +64,11 @@ unfoldable pub name_fault : ℕ → List ℕ → LineFault
 name_fault k line = ifᵇ row_named line =ᵇ count then NoName else (ifᵇ row_named line <ᵇ k then Twice else Misplaced)
 
 -- a line in the place of the row after the first k
-abbrev pub row_step_by : Entry → List ℕ → ℕ → List ℕ → Step
-row_step_by (Figure n) figures k line = accepted_in (stored figures k n) k
-row_step_by NameMissing figures k line = refused_by figures (name_fault k line) k
-row_step_by FigureMissing figures k line = refused_by figures NoFigure k
-row_step_by UnitMissing figures k line = refused_by figures NoUnit k
+abbrev pub row_step_by : Result ℕ EntryFault → List ℕ → ℕ → List ℕ → Step
+row_step_by (Ok n) figures k line = accepted_in (stored figures k n) k
+row_step_by (Err NameMissing) figures k line = refused_by figures (name_fault k line) k
+row_step_by (Err FigureMissing) figures k line = refused_by figures NoFigure k
+row_step_by (Err UnitMissing) figures k line = refused_by figures NoUnit k
 
 unfoldable pub row_step : List ℕ → ℕ → List ℕ → Step
 row_step figures k line = row_step_by (entry_of k line) figures k line

@@ -4,7 +4,7 @@ ghost use Rattle.lines.specs.Lines.{Put};
 ghost use Rattle.texts.specs.Shown.{row_line, rows_text, refused_text, read_text, shown_text, form_row, form_text, sheet_text};
 
 use crate::{SHEET_BYTES, putting};
-use sheet::{ReadFault, SheetRead};
+use sheet::{ReadFault, Sheet};
 
 // The bytes that the form is given.
 pub const FORM_ROOM: usize = 20000;
@@ -45,13 +45,13 @@ fn put_refused(fault: ReadFault, buffer: &mut [u8], at: usize) -> usize
 }
 
 // What bytes are read as.
-fn put_read(read: SheetRead, buffer: &mut [u8], at: usize) -> usize
+fn put_read(read: Result<Sheet, ReadFault>, buffer: &mut [u8], at: usize) -> usize
     requires { at + 2400 ≤ length buffer.old }
     ensures { Put buffer.old at (read_text read) buffer.new result }
 {
     match read {
-        SheetRead::Good(sheet) => put_rows(sheet::figures_of(sheet), buffer, at),
-        SheetRead::NoSheet(fault) => put_refused(fault, buffer, at),
+        Ok(sheet) => put_rows(sheet::figures_of(sheet), buffer, at),
+        Err(fault) => put_refused(fault, buffer, at),
     }
 }
 
@@ -73,11 +73,11 @@ pub fn put_figures(figures: [u32; sheet::COUNT], buffer: &mut [u8], at: usize) -
 {
     let made = sheet::sheet_from(figures);
     match made {
-        SheetRead::Good(sheet) => {
+        Ok(sheet) => {
             sheet::write(sheet, &mut buffer[at..]);
             at + SHEET_BYTES
         }
-        SheetRead::NoSheet(_) => at,
+        Err(_) => at,
     }
 }
 

@@ -6,7 +6,7 @@ ghost use Rattle.texts.specs.Texts.{happened_in, turn_on, ended_at};
 
 use crate::{Cursor, Event, Found, LineFault, Place, Stage, cutting};
 use sheet::Standing;
-use typed::Entry;
+use typed::EntryFault;
 
 // What a line brings, and the stage and the figures then.
 #[derive(Clone, Copy)]
@@ -110,10 +110,10 @@ fn row_step(figures: [u32; sheet::COUNT], k: usize, line: &[u8]) -> Step
 {
     let entry = typed::read_line(k, line);
     match entry {
-        Entry::Figure(figure) => accepted_in(with_figure(figures, k, figure), k),
-        Entry::NoName => refused_by(figures, name_fault(k, line), k),
-        Entry::NoFigure => refused_by(figures, LineFault::NoFigure, k),
-        Entry::NoUnit => refused_by(figures, LineFault::NoUnit, k),
+        Ok(figure) => accepted_in(with_figure(figures, k, figure), k),
+        Err(EntryFault::NoName) => refused_by(figures, name_fault(k, line), k),
+        Err(EntryFault::NoFigure) => refused_by(figures, LineFault::NoFigure, k),
+        Err(EntryFault::NoUnit) => refused_by(figures, LineFault::NoUnit, k),
     }
 }
 

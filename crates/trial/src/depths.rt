@@ -1,7 +1,7 @@
 // The depth of nine figures: draft, length, soil, wave allowance, silting, interval's code, natural depth, speed, lanes.
 use crate::places;
 use datum::BelowLevel;
-use depth::{Column, Depth, Stretch, Try};
+use depth::{Column, Stretch, Try};
 
 fn stretch_of(figures: &[u32]) -> Stretch {
     let interval = depth::interval_of(places::small_at(figures, 5));
@@ -25,7 +25,7 @@ fn stretch_of(figures: &[u32]) -> Stretch {
 pub extern "C" fn trial_depth(figures: &[u32], place: &mut [u32]) -> u32 {
     let answer = depth::work_depth(stretch_of(figures));
     match answer {
-        Depth::Cut(found) => {
+        Ok(found) => {
             let numbers = [
                 found.cut.0 as u32,
                 found.sailing.0 as u32,
@@ -34,7 +34,7 @@ pub extern "C" fn trial_depth(figures: &[u32], place: &mut [u32]) -> u32 {
             places::store(&numbers, place, 0);
             0
         }
-        Depth::NoCut(fault) => depth::depth_fault_number(fault) as u32,
+        Err(fault) => depth::depth_fault_number(fault) as u32,
     }
 }
 

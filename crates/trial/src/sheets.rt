@@ -1,7 +1,7 @@
 // Sheets read, made of figures, and written.
 use crate::places;
 use datum::{BelowLevel, Level};
-use sheet::{COUNT, Sheet, SheetRead, SheetWritten};
+use sheet::{COUNT, ReadFault, Sheet};
 
 fn array_of(figures: &[u32]) -> [u32; COUNT] {
     let mut f = [0u32; COUNT];
@@ -16,14 +16,14 @@ fn array_of(figures: &[u32]) -> [u32; COUNT] {
 }
 
 // The figures of a sheet into the place and 0; or the refusal's number, and a hundred times the field that it names.
-fn answer_of(answer: SheetRead, place: &mut [u32]) -> u32 {
+fn answer_of(answer: Result<Sheet, ReadFault>, place: &mut [u32]) -> u32 {
     match answer {
-        SheetRead::Good(sheet) => {
+        Ok(sheet) => {
             let figures = sheet::figures_of(sheet);
             places::store(&figures, place, 0);
             0
         }
-        SheetRead::NoSheet(fault) => {
+        Err(fault) => {
             sheet::read_fault_number(fault) as u32 + 100 * sheet::read_fault_field(fault) as u32
         }
     }
@@ -57,8 +57,8 @@ fn with_figure(good: Sheet, field: u32, figure: u32) -> Sheet {
 fn written(sheet: Sheet, place: &mut [u8]) -> u32 {
     let answer = sheet::write(sheet, place);
     match answer {
-        SheetWritten::Done => 0,
-        SheetWritten::NotWritten(fault) => {
+        Ok(()) => 0,
+        Err(fault) => {
             sheet::write_fault_number(fault) as u32 + 100 * sheet::write_fault_field(fault) as u32
         }
     }
@@ -71,7 +71,7 @@ pub extern "C" fn trial_write(figures: &[u32], place: &mut [u8]) -> u32 {
     let field = places::figure_at(figures, COUNT);
     let figure = places::figure_at(figures, COUNT + 1);
     match made {
-        SheetRead::Good(sheet) => written(with_figure(sheet, field, figure), place),
-        SheetRead::NoSheet(_) => 10000,
+        Ok(sheet) => written(with_figure(sheet, field, figure), place),
+        Err(_) => 10000,
     }
 }

@@ -1,7 +1,7 @@
 // The critical speed of five figures: cut, natural depth, width, side slope, knots.
 use crate::places;
 use datum::BelowLevel;
-use speed::{Section, Speed, SpeedCheck};
+use speed::Section;
 
 fn section_of(figures: &[u32]) -> Section {
     let cut = BelowLevel(places::short_at(figures, 0));
@@ -15,10 +15,10 @@ fn section_of(figures: &[u32]) -> Section {
 }
 
 // The parts of a speed, 0 where a point is missing.
-fn parts_of(speed: Speed) -> u64 {
+fn parts_of(speed: Option<u64>) -> u64 {
     match speed {
-        Speed::Parts(parts) => parts,
-        Speed::Missing => 0,
+        Some(parts) => parts,
+        None => 0,
     }
 }
 
@@ -36,7 +36,7 @@ pub extern "C" fn trial_speed(figures: &[u32], place: &mut [u32]) -> u32 {
         0,
     );
     match speed::check_speed(section, places::small_at(figures, 4)) {
-        SpeedCheck::Allowed => 0,
-        SpeedCheck::NotAllowed(fault) => speed::speed_fault_number(fault) as u32,
+        Ok(()) => 0,
+        Err(fault) => speed::speed_fault_number(fault) as u32,
     }
 }

@@ -1,7 +1,7 @@
 // The width and the bend of a stretch, by figures in the order of the sheet's fields, then the lanes and the sailing depth.
 use crate::places;
 use datum::{AlongCurrent, BelowLevel, CrossCurrent};
-use width::{Bend, EntriesFound, Stretch, WidthFault};
+use width::{Stretch, WidthFault};
 
 fn entries_of(figures: &[u32]) -> EntriesFound {
     let cross = CrossCurrent(places::small_at(figures, 6));
@@ -44,7 +44,7 @@ fn six(a: u8, b: u8, c: u8, d: u8, e: u8, f: u8) -> [u32; 6] {
 pub extern "C" fn trial_width(figures: &[u32], place: &mut [u32]) -> u32 {
     let found = entries_of(figures);
     match found {
-        EntriesFound::Entered(entries) => {
+        Ok(entries) => {
             let stretch = stretch_of(figures);
             let lanes = stretch.lanes;
             let sailing = stretch.sailing;
@@ -76,7 +76,7 @@ pub extern "C" fn trial_width(figures: &[u32], place: &mut [u32]) -> u32 {
             places::store(&found, &mut *place, 12);
             0
         }
-        EntriesFound::NoEntry => width::width_fault_number(WidthFault::NoWidthEntry) as u32,
+        Err(WidthFault::NoWidthEntry) => width::width_fault_number(WidthFault::NoWidthEntry) as u32,
     }
 }
 
@@ -93,13 +93,13 @@ pub extern "C" fn trial_bend(figures: &[u32], place: &mut [u32]) -> u32 {
     );
     let ship = class::ship_class(places::figure_at(figures, 5)) as u32;
     let widening = match bend {
-        Bend::Widening(cm) => cm,
-        Bend::TooTight => 0,
+        Ok(cm) => cm,
+        Err(WidthFault::BendTooTight) => 0,
     };
     places::store(&[widening, ship], place, 0);
     match bend {
-        Bend::Widening(_) => 0,
-        Bend::TooTight => width::width_fault_number(WidthFault::BendTooTight) as u32,
+        Ok(_) => 0,
+        Err(WidthFault::BendTooTight) => width::width_fault_number(WidthFault::BendTooTight) as u32,
     }
 }
 

@@ -1,4 +1,5 @@
 -- What the typed lines promise, in the definition's words (section 14). Each proof stands where it is cited.
+use Rattle.std.specs.Prelude.{Result, Ok, Err}
 use mathlib.Core.Path.{◌≡◌}
 use mathlib.Core.Bool.{Bool, true, false}
 use mathlib.Core.List.{List, map}
@@ -11,8 +12,7 @@ use Rattle.lines.specs.Lines.{place_within, buffer_within}
 use Rattle.typed.specs.Rows.{bytes_of, count, row_at, values_of}
 use Rattle.typed.specs.Lines.{line_bytes, expected_bytes, name_text, front_text, line_text, blank_text, expected_text}
 use Rattle.typed.specs.Reading.{stands, guessed, entry_of, named, row_named}
-use Rattle.typed.specs.declared.Entry.{Entry}
-use Rattle.typed.specs.declared.Entry.TheVariants.{Figure, NoName, NoFigure, NoUnit}
+use Rattle.typed.specs.declared.EntryFault.TheVariants.{NoName, NoFigure, NoUnit}
 use Rattle.typed.specs.declared.Kind.TheVariants.{Words}
 use Rattle.typed.proofs.meaning.Bytes.{line_plain, no_control, first_byte, some_bytes, line_fits, expected_plain, expected_fits, blank_plain, blank_fits}
 use Rattle.typed.proofs.meaning.Complete.{complete, complete_number, exactly, one_line, blank_no_figure}
@@ -20,21 +20,22 @@ use Rattle.typed.proofs.meaning.Names.{own_name, other_name, one_name, row_withi
 use Rattle.typed.proofs.meaning.Sample.{lines_s, expected_texts_lem, blank_lines_lem, tenths_line, below_line, record_line, word_line, no_tenths}
 use Rattle.typed.proofs.meaning.Starred.{figures_of_s, in_each_row, lines_of_s, expected_texts, blank_lines}
 use Rattle.typed.proofs.meaning.Ways.{no_name_exactly, no_figure_exactly, no_unit_exactly, figure_exactly, sound}
+use Rattle.typed.specs.declared.EntryFault.{EntryFault}
 
 -- A line says a figure only if it is the figure's line.
-pub figure_of_line : (i : ℕ) (line : List ℕ) (n : ℕ) → entry_of i line ≡ Figure n → line ≡ line_text i n
+pub figure_of_line : (i : ℕ) (line : List ℕ) (n : ℕ) → entry_of i line ≡ Ok n → line ≡ line_text i n
 figure_of_line = sound
 
 -- The line of a figure up to its row's greatest says that figure.
-pub line_says_figure : (i n : ℕ) → i < count → n ≤ (values_of i).greatest → entry_of i (line_text i n) ≡ Figure n
+pub line_says_figure : (i n : ℕ) → i < count → n ≤ (values_of i).greatest → entry_of i (line_text i n) ≡ Ok n
 line_says_figure = complete
 
 -- So does the line of a number of at most nine digits that is outside its row's values.
-pub line_says_number : (i n : ℕ) → (row_at i).1 ≢ Words → n < 1000000000 → entry_of i (line_text i n) ≡ Figure n
+pub line_says_number : (i n : ℕ) → (row_at i).1 ≢ Words → n < 1000000000 → entry_of i (line_text i n) ≡ Ok n
 line_says_number = complete_number
 
 -- A line says a figure exactly when it is the figure's line.
-pub says_exactly : (i n : ℕ) (line : List ℕ) → i < count → n ≤ (values_of i).greatest → (entry_of i line ≡ Figure n) ↔ (line ≡ line_text i n)
+pub says_exactly : (i n : ℕ) (line : List ℕ) → i < count → n ≤ (values_of i).greatest → (entry_of i line ≡ Ok n) ↔ (line ≡ line_text i n)
 says_exactly = exactly
 
 -- Two figures with one line are one figure of one row.
@@ -67,30 +68,30 @@ pub line_names_row : (i n : ℕ) → i < count → row_named (line_text i n) ≡
 line_names_row = line_row
 
 -- No name is told exactly when the line has another row's, or none.
-pub no_name_by_row : (i : ℕ) (line : List ℕ) → i < count → (entry_of i line ≡ NoName) ↔ (row_named line ≢ i)
+pub no_name_by_row : (i : ℕ) (line : List ℕ) → i < count → (entry_of i line ≡ (Err NoName)) ↔ (row_named line ≢ i)
 no_name_by_row = no_name_row
 
 -- Each way out of reading a line, exactly when it is taken: no name; a name, and no figure behind it; a figure, and not its unit; the figure's line.
-pub no_name : (i : ℕ) (line : List ℕ) → (entry_of i line ≡ NoName) ↔ (named line i ≡ false)
+pub no_name : (i : ℕ) (line : List ℕ) → (entry_of i line ≡ (Err NoName)) ↔ (named line i ≡ false)
 no_name = no_name_exactly
 
 pub no_figure : (i : ℕ) (line : List ℕ)
-    → (entry_of i line ≡ NoFigure)
+    → (entry_of i line ≡ (Err NoFigure))
     ↔ ((named line i ≡ true) × (stands (front_text (row_at i) (guessed (row_at i) (drop (length (name_text (row_at i))) line))) line ≡ false))
 no_figure = no_figure_exactly
 
 pub no_unit : (i : ℕ) (line : List ℕ)
-    → (entry_of i line ≡ NoUnit)
+    → (entry_of i line ≡ (Err NoUnit))
     ↔ ((stands (front_text (row_at i) (guessed (row_at i) (drop (length (name_text (row_at i))) line))) line ≡ true)
     × (line ≢ line_text i (guessed (row_at i) (drop (length (name_text (row_at i))) line))))
 no_unit = no_unit_exactly
 
 pub figure : (i : ℕ) (line : List ℕ) (n : ℕ)
-    → (entry_of i line ≡ Figure n) ↔ ((n ≡ guessed (row_at i) (drop (length (name_text (row_at i))) line)) × (line ≡ line_text i n))
+    → (entry_of i line ≡ Ok n) ↔ ((n ≡ guessed (row_at i) (drop (length (name_text (row_at i))) line)) × (line ≡ line_text i n))
 figure = figure_exactly
 
 -- A row left as in the empty form says no figure.
-pub blank_says_none : (i : ℕ) → i < count → entry_of i (blank_text i) ≡ NoFigure
+pub blank_says_none : (i : ℕ) → i < count → entry_of i (blank_text i) ≡ (Err NoFigure)
 blank_says_none = blank_no_figure
 
 -- No line is longer than its 80 bytes, and what is expected in a row no longer than its 512.
@@ -156,7 +157,7 @@ pub expected_buffer_unique : (i at : ℕ) (buffer now later : List ℕ)
     → now ≡ buffer_within expected_bytes (expected_text i) at buffer → later ≡ buffer_within expected_bytes (expected_text i) at buffer → now ≡ later
 expected_buffer_unique i at buffer = one_answer
 
-pub entry_unique : (i : ℕ) (line : List ℕ) (r s : Entry) → r ≡ entry_of i line → s ≡ entry_of i line → r ≡ s
+pub entry_unique : (i : ℕ) (line : List ℕ) (r s : Result ℕ EntryFault) → r ≡ entry_of i line → s ≡ entry_of i line → r ≡ s
 entry_unique i line = one_answer
 
 pub row_named_unique : (line : List ℕ) (r s : ℕ) → r ≡ row_named line → s ≡ row_named line → r ≡ s
@@ -189,5 +190,5 @@ pub starred_word : line_text 9 1 ≡ bytes_of "interval 0.33 yr"
 starred_word = word_line
 
 -- The definition's line that has no such figure.
-pub starred_no_figure : entry_of 16 (bytes_of "cross-current 1 kn") ≡ NoFigure
+pub starred_no_figure : entry_of 16 (bytes_of "cross-current 1 kn") ≡ (Err NoFigure)
 starred_no_figure = no_tenths

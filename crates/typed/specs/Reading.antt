@@ -1,14 +1,14 @@
 -- What a line says in the place of a row: the figure is guessed, put back as the row has it and compared (sections 14.2 and 14.3).
-use Rattle.std.specs.Prelude.{ℕ, ◌+◌, ◌-◌, ◌*◌, Bool, true, false, List, [], ◌∷◌, length, drop}
+use Rattle.std.specs.Prelude.{ℕ, ◌+◌, ◌-◌, ◌*◌, Bool, true, false, List, [], ◌∷◌, length, drop, Result, Ok, Err}
 use Rattle.laws.specs.Choice.{ifᵇ◌then◌else◌, ◌≤ᵇ◌, ◌<ᵇ◌, ◌=ᵇ◌}
 use Rattle.laws.specs.First.{first_of}
 use Rattle.typed.specs.Rows.{bytes_of, count, row_at}
 use Rattle.typed.specs.Lines.{point, level_zero, word_text, name_text, front_text, row_text}
-use Rattle.typed.specs.declared.Entry.{Entry}
-use Rattle.typed.specs.declared.Entry.TheVariants.{Figure, NoName, NoFigure, NoUnit}
+use Rattle.typed.specs.declared.EntryFault.TheVariants.{NoName, NoFigure, NoUnit}
 use Rattle.typed.specs.declared.Kind.{Kind}
 use Rattle.typed.specs.declared.Kind.TheVariants.{Whole, Tenths, Hundredths, Words, Level}
 use Rattle.typed.specs.declared.table.Row.{Row}
+use Rattle.typed.specs.declared.EntryFault.{EntryFault}
 
 -- a text stands at the front of bytes
 unfoldable pub stands : List ℕ → List ℕ → Bool
@@ -66,20 +66,20 @@ unfoldable pub guessed : Row → List ℕ → ℕ
 guessed r bytes = guess_by r.1 r.3 bytes
 
 -- what a line says of a figure: that it is its figure, or where it is another line
-unfoldable pub entry_on : Row → List ℕ → ℕ → Entry
+unfoldable pub entry_on : Row → List ℕ → ℕ → Result ℕ EntryFault
 entry_on r line n =
     ifᵇ stands (front_text r n) line
-    then (ifᵇ same (row_text r n) line then Figure n else NoUnit)
-    else NoFigure
+    then (ifᵇ same (row_text r n) line then Ok n else (Err NoUnit))
+    else (Err NoFigure)
 
 -- what a line says in the place of a row
-unfoldable pub entry_by : Row → List ℕ → Entry
+unfoldable pub entry_by : Row → List ℕ → Result ℕ EntryFault
 entry_by r line =
     ifᵇ stands (name_text r) line
     then entry_on r line (guessed r (drop (length (name_text r)) line))
-    else NoName
+    else (Err NoName)
 
-unfoldable pub entry_of : ℕ → List ℕ → Entry
+unfoldable pub entry_of : ℕ → List ℕ → Result ℕ EntryFault
 entry_of i line = entry_by (row_at i) line
 
 -- a line has the name of the row after the first i; the first such row, the count where there is none

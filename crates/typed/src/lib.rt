@@ -33,8 +33,7 @@ pub enum Kind {
 
 // What a line says in the place of a row: its figure, or why it has none.
 #[derive(Clone, Copy)]
-pub enum Entry {
-    Figure(u32),
+pub enum EntryFault {
     NoName,
     NoFigure,
     NoUnit,
@@ -72,7 +71,7 @@ pub fn put_expected(i: usize, buffer: &mut [u8], at: usize) -> usize
 }
 
 // What a line says in the place of the row after the first i.
-pub fn read_line(i: usize, line: &[u8]) -> Entry
+pub fn read_line(i: usize, line: &[u8]) -> Result<u32, EntryFault>
     ensures { result ≡ entry_of i line.now }
 {
     reading::read_row(table::row_at(i), line)

@@ -4,7 +4,7 @@ ghost use Rattle.typed.specs.Lines.{name_text};
 ghost use Rattle.typed.specs.Reading.{stands, same, in_number, digit_on, digits_read, below_zero, level_guess, word_stands, word_guess, guessed, entry_by};
 
 use crate::table::Row;
-use crate::{Entry, Kind, printing};
+use crate::{EntryFault, Kind, printing};
 
 const MINUS: u8 = 45;
 
@@ -161,22 +161,22 @@ pub fn has_name(row: Row, line: &[u8]) -> bool
 }
 
 // What a line says in the place of a row.
-pub fn read_row(row: Row, line: &[u8]) -> Entry
+pub fn read_row(row: Row, line: &[u8]) -> Result<u32, EntryFault>
     ensures { result ≡ entry_by row line.now }
 {
     let mut printed = [0u8; 80];
     let name = printing::put_name(row, &mut printed, 0);
     if !front_stands(&printed[0..name], line) {
-        return Entry::NoName;
+        return Err(EntryFault::NoName);
     }
     let figure = guess(row, &line[name..]);
     let front = printing::put_figure(row, figure, &mut printed, name);
     if !front_stands(&printed[0..front], line) {
-        return Entry::NoFigure;
+        return Err(EntryFault::NoFigure);
     }
     let end = printing::put_unit(row, figure, &mut printed, front);
     if !whole_stands(&printed[0..end], line) {
-        return Entry::NoUnit;
+        return Err(EntryFault::NoUnit);
     }
-    Entry::Figure(figure)
+    Ok(figure)
 }

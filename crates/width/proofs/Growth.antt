@@ -1,5 +1,6 @@
 -- A greater beam, wind, current or wave never narrows a width and never finds entries that were missing:
 -- each band rises, so the items do, the total does, and its product with the beam.
+use Rattle.std.specs.Prelude.{Option, Some, Result}
 use mathlib.Core.Path.{◌≡◌, subst⁻¹}
 use Prim.Native.Nat.{ℕ, ◌≤◌}
 use native.Mathlib.Nat.{mul-le-mul}
@@ -15,12 +16,10 @@ use Rattle.width.specs.Refusals.{entries_number}
 use Rattle.width.specs.Comparing.{changed, Harder, NoNarrower, as_wide, refused}
 use Rattle.width.specs.declared.Water.{Water}
 use Rattle.width.specs.declared.SpeedBand.{SpeedBand}
-use Rattle.width.specs.declared.Entry.{Entry}
-use Rattle.width.specs.declared.Entry.TheVariants.{Tenths}
 use Rattle.width.specs.declared.Stretch.{Stretch}
 use Rattle.width.specs.declared.Entries.{Entries}
-use Rattle.width.specs.declared.EntriesFound.{EntriesFound}
 use Rattle.width.proofs.bands.Rising.{Upto, tenths, blank, wind_rises, along_rises, cross_rises, wave_rises}
+use Rattle.width.specs.declared.WidthFault.{WidthFault}
 
 module _ (s : Stretch) (beam wind : ℕ) (along : AlongCurrent) (b : s.beam ≤ beam) (w : s.wind ≤ wind) (a : s.along.0 ≤ along.0)
     (water : Water) (band : SpeedBand) where
@@ -40,8 +39,8 @@ module _ (s : Stretch) (beam wind : ℕ) (along : AlongCurrent) (b : s.beam ≤ 
   unfolding width_of
   width_rises n m n' m' p q = up_mono 10 (omega arith) (mul-le-mul (tenths_rise s.lanes n m n' m' p q) b)
 
-  from_entries : (e e' h h' : Entry) → Upto e e' → Upto h h' → NoNarrower s hard (entries_by water band e h) (entries_by water band e' h')
-  from_entries (Tenths n) (Tenths n') (Tenths m) (Tenths m') (tenths p) (tenths q) = as_wide (width_rises n m n' m' p q)
+  from_entries : (e e' h h' : Option ℕ) → Upto e e' → Upto h h' → NoNarrower s hard (entries_by water band e h) (entries_by water band e' h')
+  from_entries (Some n) (Some n') (Some m) (Some m') (tenths p) (tenths q) = as_wide (width_rises n m n' m' p q)
   from_entries e e' h h' (tenths p) blank = refused
   from_entries e e' h h' blank q = refused
 
@@ -57,7 +56,7 @@ never_narrower easy hard water speed cross cross' wave wave' h c v =
     ((cross_rises column band).rises cross.0 cross'.0 c) ((wave_rises column band).rises wave wave' v))
 
 -- so the figure is no less where the harder has entries
-pub figure_rises : (easy hard : Stretch) (a b : EntriesFound) → NoNarrower easy hard a b → entries_number b ≡ 0
+pub figure_rises : (easy hard : Stretch) (a b : Result Entries WidthFault) → NoNarrower easy hard a b → entries_number b ≡ 0
     → width_figure easy a ≤ width_figure hard b
 figure_rises easy hard a b (as_wide rises) e = rises
 figure_rises easy hard a b refused e = absurd (omega arith)

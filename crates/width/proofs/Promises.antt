@@ -1,5 +1,6 @@
 -- What the width and the bends promise (sections 5, 6 and 8), each cited from its proof. `entries_of`, `items_of`, `lane_and_added`, `tenths_of`,
 -- `width_of`, `least_radius`, `bend_of` and `width_fault_number` are what the calls of like names ensure.
+use Rattle.std.specs.Prelude.{Result, Ok, Err}
 use mathlib.Core.Path.{◌≡◌}
 use mathlib.Core.Logic.{◌↔◌, ◌≢◌}
 use Prim.Native.Nat.{ℕ, ◌+◌, ◌*◌, ◌^◌, ◌≤◌, ◌<◌}
@@ -18,11 +19,8 @@ use Rattle.width.specs.Comparing.{Harder, NoNarrower}
 use Rattle.width.specs.Starred.{cases, figures}
 use Rattle.width.specs.declared.Stretch.{Stretch}
 use Rattle.width.specs.declared.Entries.{Entries}
-use Rattle.width.specs.declared.EntriesFound.{EntriesFound}
 use Rattle.width.specs.declared.Items.{Items}
 use Rattle.width.specs.declared.WidthFault.{WidthFault}
-use Rattle.width.specs.declared.Bend.{Bend}
-use Rattle.width.specs.declared.Bend.TheVariants.{Widening, TooTight}
 use Rattle.width.proofs.Totals.{one_lane_total, two_lanes_total}
 use Rattle.width.proofs.bends.Ways.{straight_always}
 use Rattle.width.proofs.Growth.{never_narrower, figure_rises}
@@ -30,6 +28,7 @@ use Rattle.width.proofs.Refusals.{entries_exactly, bend_exactly}
 use Rattle.width.proofs.Meaning.{rounded_exactly, none_from_ten, widening_exactly, tight_exactly}
 use Rattle.width.proofs.Sizes.{width_figure_small, widening_small}
 use Rattle.width.proofs.Cases.{computed}
+use Rattle.width.specs.declared.WidthFault.TheVariants.{BendTooTight}
 
 -- One lane: lane + W + banks. Two: twice lane and W, banks, passing, traffic.
 pub one_lane : (items : Items) → tenths_of One items ≡ lane_and_added items + items.banks
@@ -55,12 +54,12 @@ pub harder_never_narrower : (easy hard : Stretch) (water speed : ℕ) (cross cro
 harder_never_narrower = never_narrower
 
 -- So where the harder has entries its figure is no less.
-pub figure_no_less : (easy hard : Stretch) (a b : EntriesFound) → NoNarrower easy hard a b → entries_number b ≡ 0
+pub figure_no_less : (easy hard : Stretch) (a b : Result Entries WidthFault) → NoNarrower easy hard a b → entries_number b ≡ 0
     → width_figure easy a ≤ width_figure hard b
 figure_no_less = figure_rises
 
 -- A straight has no least radius and no widening.
-pub straight_is_free : (radius length knots : ℕ) (lanes : Lanes) → bend_of 0 radius length knots lanes ≡ Widening 0
+pub straight_is_free : (radius length knots : ℕ) (lanes : Lanes) → bend_of 0 radius length knots lanes ≡ Ok 0
 straight_is_free = straight_always
 
 -- 7 exactly when the bend is too tight, which is a turn with a radius under the least; every other bend has its widening.
@@ -69,17 +68,17 @@ number_7 = bend_exactly
 
 -- So the least radius in whole metres is the least that is not too tight.
 pub tight_under_least_radius : (turn radius length knots : ℕ) (lanes : Lanes) → turn ≢ 0
-    → (bend_of turn radius length knots lanes ≡ TooTight) ↔ (radius < least_radius turn length)
+    → (bend_of turn radius length knots lanes ≡ (Err BendTooTight)) ↔ (radius < least_radius turn length)
 tight_under_least_radius = tight_exactly
 
 -- From 10 lengths on it is 0.
-pub from_ten_lengths : (turn radius length knots : ℕ) (lanes : Lanes) → 10 * length ≤ 100 * radius → bend_of turn radius length knots lanes ≡ Widening 0
+pub from_ten_lengths : (turn radius length knots : ℕ) (lanes : Lanes) → 10 * length ≤ 100 * radius → bend_of turn radius length knots lanes ≡ Ok 0
 from_ten_lengths = none_from_ten
 
 -- A bend under 10 lengths adds 9144 × turn × knots² × length² × lanes / (2,446,000,000 × radius) cm, rounded up.
 pub under_ten_lengths : (turn radius length knots : ℕ) (lanes : Lanes) → turn ≢ 0 → least_lengths turn * length ≤ 100 * radius
     → 100 * radius < 10 * length → (cm : ℕ)
-    → (bend_of turn radius length knots lanes ≡ Widening cm)
+    → (bend_of turn radius length knots lanes ≡ Ok cm)
     ↔ Least (λ (w : ℕ). 9144 * turn * (knots * knots) * (length * length) * lane_count lanes ≤ w * (2446000000 * radius)) cm
 under_ten_lengths = widening_exactly
 
@@ -97,7 +96,7 @@ pub starred : cases ≡ figures
 starred = computed
 
 -- One answer of each call.
-pub entries_unique : (water speed : ℕ) (cross : CrossCurrent) (wave : ℕ) (r t : EntriesFound)
+pub entries_unique : (water speed : ℕ) (cross : CrossCurrent) (wave : ℕ) (r t : Result Entries WidthFault)
     → r ≡ entries_of water speed cross wave → t ≡ entries_of water speed cross wave → r ≡ t
 entries_unique water speed cross wave = one_answer
 
@@ -116,7 +115,7 @@ width_unique s e = one_answer
 pub least_radius_unique : (turn length r t : ℕ) → r ≡ least_radius turn length → t ≡ least_radius turn length → r ≡ t
 least_radius_unique turn length = one_answer
 
-pub bend_unique : (turn radius length knots : ℕ) (lanes : Lanes) (r t : Bend)
+pub bend_unique : (turn radius length knots : ℕ) (lanes : Lanes) (r t : Result ℕ WidthFault)
     → r ≡ bend_of turn radius length knots lanes → t ≡ bend_of turn radius length knots lanes → r ≡ t
 bend_unique turn radius length knots lanes = one_answer
 

@@ -1,4 +1,5 @@
 -- Each answer tells whether its row holds: entries are missing exactly past the last band of sheltered water, and a bend is too tight by its tests.
+use Rattle.std.specs.Prelude.{Option, Result, Ok, Err}
 use mathlib.Core.Path.{◌≡◌, refl}
 use mathlib.Core.Bool.{Bool, true, false}
 use mathlib.Core.Logic.{◌⊎◌, inl, inr}
@@ -18,14 +19,11 @@ use Rattle.width.specs.Refusals.{bend_number, entries_number, TightBend, NoWidth
 use Rattle.width.specs.declared.Water.{Water}
 use Rattle.width.specs.declared.Water.TheVariants.{Open, Sheltered}
 use Rattle.width.specs.declared.SpeedBand.{SpeedBand}
-use Rattle.width.specs.declared.Entry.{Entry}
 use Rattle.width.specs.declared.Entries.{Entries}
-use Rattle.width.specs.declared.EntriesFound.{EntriesFound}
-use Rattle.width.specs.declared.EntriesFound.TheVariants.{Entered, NoEntry}
-use Rattle.width.specs.declared.Bend.{Bend}
-use Rattle.width.specs.declared.Bend.TheVariants.{Widening, TooTight}
 use Rattle.width.proofs.bends.Ways.{straight, tight, widened, wide}
 use Rattle.width.proofs.bands.Missing.{Past, Reads, there, missing, cross_reads, wave_reads}
+use Rattle.width.specs.declared.WidthFault.TheVariants.{BendTooTight}
+use Rattle.width.specs.declared.WidthFault.{WidthFault}
 
 -- the water of a sheet
 past_sheltered : (water last figure : ℕ) → Past (water_of water) last figure → (water ≡ 1) × (last < figure)
@@ -41,8 +39,8 @@ unfolding water_of
 sheltered_past water last figure is over = rw (eq-eqb water 1 is) over
 
 -- what is told of entries: those that are found are some
-abbrev pub entering : Call EntriesFound
-entering = record { number = entries_number; answered = λ found. (e : Entries) × (found ≡ Entered e); refused = λ found. found ≡ NoEntry }
+abbrev pub entering : Call (Result Entries WidthFault)
+entering = record { number = entries_number; answered = λ found. (e : Entries) × (found ≡ Ok e); refused = λ found. found ≡ (Err NoWidthEntry) }
 
 module _ (water speed : ℕ) (cross : CrossCurrent) (wave : ℕ) where
   abbrev column : Water
@@ -51,7 +49,7 @@ module _ (water speed : ℕ) (cross : CrossCurrent) (wave : ℕ) where
   abbrev band : SpeedBand
   band = speed_band_of speed
 
-  from_reads : (c w : Entry) → Reads (Past column 15 cross.0) c → Reads (Past column 100 wave) w
+  from_reads : (c w : Option ℕ) → Reads (Past column 15 cross.0) c → Reads (Past column 100 wave) w
       → Told entering (entries_rows water cross wave) (entries_by column band c w)
   from_reads c w (there n within) (there m low) = past none (refl, (_, refl))
     where
@@ -75,11 +73,11 @@ module _ (water speed : ℕ) (cross : CrossCurrent) (wave : ℕ) where
   entries_exactly = exactly entering (entries_rows water cross wave) tt (entries_of water speed cross wave) entries_told
 
 -- what is told of a bend: one that is answered has its widening
-abbrev pub bends : Call Bend
-bends = record { number = bend_number; answered = λ b. b ≡ Widening (widening_figure b); refused = λ b. b ≡ TooTight }
+abbrev pub bends : Call (Result ℕ WidthFault)
+bends = record { number = bend_number; answered = λ b. b ≡ Ok (widening_figure b); refused = λ b. b ≡ (Err BendTooTight) }
 
 module _ (turn radius length knots : ℕ) (lanes : Lanes) where
-  abbrev BendTold : Bend → Type 0
+  abbrev BendTold : Result ℕ WidthFault → Type 0
   BendTold = Told bends (bend_rows turn radius length)
 
   -- by the three tests of its definition

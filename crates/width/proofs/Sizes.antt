@@ -1,4 +1,5 @@
 -- Each item of a width is under 256 tenths of the beam, and no widening is over 4,134 lengths of the ship: so both figures are under 2 ^ 31.
+use Rattle.std.specs.Prelude.{Option, Some, None, Ok, Err}
 use mathlib.Core.Path.{◌≡◌, refl}
 use mathlib.Core.Bool.{Bool, true, false}
 use Prim.Native.Nat.{ℕ, ◌*◌, ◌^◌, ◌≤◌, ◌<◌}
@@ -19,15 +20,13 @@ use Rattle.width.specs.declared.Water.{Water}
 use Rattle.width.specs.declared.Water.TheVariants.{Open, Sheltered}
 use Rattle.width.specs.declared.SpeedBand.{SpeedBand}
 use Rattle.width.specs.declared.SpeedBand.TheVariants.{Moderate, Slow}
-use Rattle.width.specs.declared.Entry.{Entry}
-use Rattle.width.specs.declared.Entry.TheVariants.{Tenths, Blank}
 use Rattle.width.specs.declared.Stretch.{Stretch}
 use Rattle.width.specs.declared.Entries.{Entries}
 use Rattle.width.specs.declared.Items.{Items}
-use Rattle.width.specs.declared.Bend.TheVariants.{Widening, TooTight}
 use Rattle.width.proofs.additions.Banks.{bank_within}
 use Rattle.width.proofs.bends.Ways.{long_enough}
 use Rattle.width.proofs.bends.Products.{widening_to}
+use Rattle.width.specs.declared.WidthFault.TheVariants.{BendTooTight}
 
 -- as few tenths as 8 bits hold
 abbrev Few : ℕ → Type 0
@@ -95,15 +94,15 @@ width_small s e beam c w =
     omega (arith, (up_le (tenths * s.beam) 10 (21 * 255 * 65535) (omega arith)).1 (omega arith))
 
 -- the entries of the tables of bands
-abbrev FewIn : Entry → Type 0
-FewIn (Tenths n) = Few n
-FewIn Blank = Unit {0}
+abbrev FewIn : Option ℕ → Type 0
+FewIn (Some n) = Few n
+FewIn None = Unit {0}
 
-either_entry : (test : Bool) (a b : Entry) → FewIn a → FewIn b → FewIn (ifᵇ test then a else b)
+either_entry : (test : Bool) (a b : Option ℕ) → FewIn a → FewIn b → FewIn (ifᵇ test then a else b)
 either_entry true a b p q = p
 either_entry false a b p q = q
 
-watered_entry : (water : Water) (a b : Entry) → FewIn a → FewIn b → FewIn (by water in-open a in-sheltered b)
+watered_entry : (water : Water) (a b : Option ℕ) → FewIn a → FewIn b → FewIn (by water in-open a in-sheltered b)
 watered_entry Open a b p q = p
 watered_entry Sheltered a b p q = q
 
@@ -119,11 +118,11 @@ wave_few water band wave = search tables depth 8
 
 -- the figure of a stretch, by the entries that it has or has not
 module _ (s : Stretch) (beam : s.beam < 2 ^ 16) where
-  from_entries : (water : Water) (band : SpeedBand) (cross wave : Entry) → FewIn cross → FewIn wave
+  from_entries : (water : Water) (band : SpeedBand) (cross wave : Option ℕ) → FewIn cross → FewIn wave
       → width_figure s (entries_by water band cross wave) < 2 ^ 31
-  from_entries water band (Tenths n) (Tenths m) c w = width_small s _ beam c w
-  from_entries water band (Tenths n) Blank c w = omega arith
-  from_entries water band Blank wave c w = omega arith
+  from_entries water band (Some n) (Some m) c w = width_small s _ beam c w
+  from_entries water band (Some n) None c w = omega arith
+  from_entries water band None wave c w = omega arith
 
   pub width_figure_small : (water speed : ℕ) (cross : CrossCurrent) (wave : ℕ) → width_figure s (entries_of water speed cross wave) < 2 ^ 31
   unfolding entries_of
@@ -140,8 +139,8 @@ widening_small turn radius length knots lanes t l k =
   where
     go : (a b c : Bool) → eqb turn 0 ≡ a → ltb (100 * radius) (least_lengths turn * length) ≡ b → ltb (100 * radius) (10 * length) ≡ c
         → widening_figure
-        (ifᵇ a then Widening 0 else
-        (ifᵇ b then TooTight else (ifᵇ c then Widening (widening_of turn radius length knots lanes) else Widening 0))) < 2 ^ 31
+        (ifᵇ a then Ok 0 else
+        (ifᵇ b then (Err BendTooTight) else (ifᵇ c then Ok (widening_of turn radius length knots lanes) else Ok 0))) < 2 ^ 31
     go true b c p q r = omega arith
     go false true c p q r = omega arith
     go false false true p q r =

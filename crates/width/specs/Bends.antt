@@ -1,11 +1,11 @@
 -- Bends: the least radius and the widening (section 6).
-use Rattle.std.specs.Prelude.{ℕ, ◌*◌, ◌<◌, ◌≤◌}
+use Rattle.std.specs.Prelude.{ℕ, ◌*◌, ◌<◌, ◌≤◌, Result, Ok, Err}
 use Rattle.laws.specs.Choice.{ifᵇ◌then◌else◌, ◌<ᵇ◌, ◌=ᵇ◌}
 use Rattle.laws.specs.Rounding.{up}
 use Rattle.lanes.specs.Lanes.{lane_count}
 use Rattle.lanes.specs.declared.Lanes.{Lanes}
-use Rattle.width.specs.declared.Bend.{Bend}
-use Rattle.width.specs.declared.Bend.TheVariants.{Widening, TooTight}
+use Rattle.width.specs.declared.WidthFault.TheVariants.{BendTooTight}
+use Rattle.width.specs.declared.WidthFault.{WidthFault}
 
 -- least radius of a bend: 3 lengths under 25°, 5 under 35°, 8 under 55°, else 10
 unfoldable pub least_lengths : ℕ → ℕ
@@ -22,16 +22,16 @@ widening_of turn radius length knots lanes =
 
 -- a straight, which is a turn of 0, has no least radius and no widening; a bend under 10 lengths adds the widening.
 -- The radius is in m and the length in cm.
-unfoldable pub bend_of : ℕ → ℕ → ℕ → ℕ → Lanes → Bend
+unfoldable pub bend_of : ℕ → ℕ → ℕ → ℕ → Lanes → Result ℕ WidthFault
 bend_of turn radius length knots lanes =
-    ifᵇ turn =ᵇ 0 then Widening 0 else
-    (ifᵇ 100 * radius <ᵇ least_lengths turn * length then TooTight else
-    (ifᵇ 100 * radius <ᵇ 10 * length then Widening (widening_of turn radius length knots lanes) else Widening 0))
+    ifᵇ turn =ᵇ 0 then Ok 0 else
+    (ifᵇ 100 * radius <ᵇ least_lengths turn * length then (Err BendTooTight) else
+    (ifᵇ 100 * radius <ᵇ 10 * length then Ok (widening_of turn radius length knots lanes) else Ok 0))
 
 -- its figure: the widening in cm, 0 when refused
-abbrev pub widening_figure : Bend → ℕ
-widening_figure (Widening cm) = cm
-widening_figure TooTight = 0
+abbrev pub widening_figure : Result ℕ WidthFault → ℕ
+widening_figure (Ok cm) = cm
+widening_figure (Err BendTooTight) = 0
 
 -- a radius of at least 3 lengths that is not 0, as every bend that is widened has
 pub record LongEnough (radius length : ℕ) : Type 0 where

@@ -1,14 +1,11 @@
 -- What turns a stretch away here (section 8): the bend, and the entries of the width; each row's number, and what it means.
-use Rattle.std.specs.Prelude.{List, [], ◌∷◌, ◌⊎◌, ◌≢◌, ◌≡◌, ℕ, ◌*◌, ◌<◌}
+use Rattle.std.specs.Prelude.{List, [], ◌∷◌, ◌⊎◌, ◌≢◌, ◌≡◌, ℕ, ◌*◌, ◌<◌, Result, Ok, Err}
 use Rattle.laws.specs.Rows.{Row, ◌when◌}
 use Rattle.datum.specs.declared.CrossCurrent.{CrossCurrent}
-use Rattle.width.specs.declared.Bend.{Bend}
-use Rattle.width.specs.declared.Bend.TheVariants.{Widening, TooTight}
-use Rattle.width.specs.declared.EntriesFound.{EntriesFound}
-use Rattle.width.specs.declared.EntriesFound.TheVariants.{Entered, NoEntry}
 use Rattle.width.specs.declared.WidthFault.{WidthFault}
-use Rattle.width.specs.declared.WidthFault.TheVariants.{BendTooTight, NoWidthEntry as EntryFault}
+use Rattle.width.specs.declared.WidthFault.TheVariants.{BendTooTight, NoWidthEntry as EntryFault, NoWidthEntry}
 use Rattle.width.specs.Bends.{least_lengths}
+use Rattle.width.specs.declared.Entries.{Entries}
 
 -- the number of each fault
 abbrev pub width_fault_number : WidthFault → ℕ
@@ -16,13 +13,13 @@ width_fault_number BendTooTight = 7
 width_fault_number EntryFault = 8
 
 -- the number of each answer, 0 for none
-abbrev pub bend_number : Bend → ℕ
-bend_number (Widening cm) = 0
-bend_number TooTight = width_fault_number BendTooTight
+abbrev pub bend_number : Result ℕ WidthFault → ℕ
+bend_number (Ok cm) = 0
+bend_number (Err BendTooTight) = width_fault_number BendTooTight
 
-abbrev pub entries_number : EntriesFound → ℕ
-entries_number (Entered entries) = 0
-entries_number NoEntry = width_fault_number EntryFault
+abbrev pub entries_number : Result Entries WidthFault → ℕ
+entries_number (Ok entries) = 0
+entries_number (Err NoWidthEntry) = width_fault_number EntryFault
 
 -- 7: bend too tight, which is a turn with a radius under the least; the radius is in m and the length in cm
 pub record TightBend (turn radius length : ℕ) : Type 0 where

@@ -1,15 +1,15 @@
 -- The starred cases of section 11 that are widths and bends: case S in one lane and in two, at its sailing depths, and three bends of its ship.
-use Rattle.std.specs.Prelude.{List, [], ◌∷◌, ℕ}
+use Rattle.std.specs.Prelude.{List, [], ◌∷◌, ℕ, Result}
 use Rattle.datum.specs.Datum.{below}
 use Rattle.lanes.specs.declared.Lanes.{Lanes}
 use Rattle.lanes.specs.declared.Lanes.TheVariants.{One, Two}
 use Rattle.width.specs.declared.Stretch.{Stretch}
-use Rattle.width.specs.declared.EntriesFound.{EntriesFound}
-use Rattle.width.specs.declared.Bend.{Bend}
 use Rattle.width.specs.Bands.{entries_of}
 use Rattle.width.specs.Width.{width_figure}
 use Rattle.width.specs.Bends.{bend_of, widening_figure}
 use Rattle.width.specs.Refusals.{bend_number, entries_number}
+use Rattle.width.specs.declared.WidthFault.{WidthFault}
+use Rattle.width.specs.declared.Entries.{Entries}
 
 -- case S, in its lanes and at its sailing depth
 abbrev pub S : Lanes → ℕ → Stretch
@@ -31,11 +31,11 @@ S lanes sailing =
     }
 
 -- its entries: open water, speed 8, cross current 10, wave 150
-abbrev pub entries_of_s : EntriesFound
+abbrev pub entries_of_s : Result Entries WidthFault
 entries_of_s = entries_of 0 8 (record { 0 = 10 }) 150
 
 -- a bend of its ship: turn 30 at a radius, in one lane
-abbrev pub bend_of_s : ℕ → Bend
+abbrev pub bend_of_s : ℕ → Result ℕ WidthFault
 bend_of_s radius = bend_of 30 radius 20000 8 One
 
 -- the number and the figure of an answer

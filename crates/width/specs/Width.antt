@@ -1,15 +1,15 @@
 -- The width of a stretch without widening (section 5.4).
-use Rattle.std.specs.Prelude.{ℕ, ◌+◌, ◌*◌}
+use Rattle.std.specs.Prelude.{ℕ, ◌+◌, ◌*◌, Result, Ok, Err}
 use Rattle.laws.specs.Rounding.{up}
 use Rattle.lanes.specs.declared.Lanes.{Lanes}
 use Rattle.lanes.specs.declared.Lanes.TheVariants.{One, Two}
 use Rattle.width.specs.declared.Stretch.{Stretch}
 use Rattle.width.specs.declared.Entries.{Entries}
-use Rattle.width.specs.declared.EntriesFound.{EntriesFound}
-use Rattle.width.specs.declared.EntriesFound.TheVariants.{Entered, NoEntry}
 use Rattle.width.specs.declared.Items.{Items}
 use Rattle.width.specs.Bands.{along_item}
 use Rattle.width.specs.Additions.{lane_item, wind_item, aids_item, bed_item, depth_item, cargo_item, banks_item, passing_item, traffic_item}
+use Rattle.width.specs.declared.WidthFault.{WidthFault}
+use Rattle.width.specs.declared.WidthFault.TheVariants.{NoWidthEntry}
 
 -- the items of a stretch, with its entries
 unfoldable pub items_of : Stretch → Entries → Items
@@ -43,6 +43,6 @@ unfoldable pub width_of : Stretch → Entries → ℕ
 width_of stretch entries = up (tenths_of stretch.lanes (items_of stretch entries) * stretch.beam) 10
 
 -- the figure of a stretch by the entries that it has or has not: its width in cm, 0 when refused
-abbrev pub width_figure : Stretch → EntriesFound → ℕ
-width_figure stretch (Entered entries) = width_of stretch entries
-width_figure stretch NoEntry = 0
+abbrev pub width_figure : Stretch → Result Entries WidthFault → ℕ
+width_figure stretch (Ok entries) = width_of stretch entries
+width_figure stretch (Err NoWidthEntry) = 0

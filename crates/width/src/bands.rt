@@ -1,10 +1,9 @@
 // The bands of currents and waves, line by line as (c), (d) and (e) of annex A of TCVN 9272:2012 (definition, section 5.2).
 // A band's lines are moderate then slow, since no sheet has a fast ship; a line has open water, then sheltered; a dash is a blank entry.
-ghost use Rattle.std.specs.Prelude.{◌≡◌};
+ghost use Rattle.std.specs.Prelude.{◌≡◌, Some, None};
 ghost use Rattle.width.specs.Bands.{by◌in-open◌in-sheltered◌, cross_entry, along_item, wave_entry};
-ghost use Rattle.width.specs.declared.Entry.TheVariants.{Tenths, Blank};
 
-use crate::{Entry, SpeedBand, Water};
+use crate::{SpeedBand, Water};
 use datum::{AlongCurrent, CrossCurrent};
 
 // A figure of open water and one of sheltered water.
@@ -18,30 +17,30 @@ pub fn watered(water: Water, outside: u8, inside: u8) -> u8
 }
 
 // A line of the annex with a figure for open water and one for sheltered water.
-fn both(water: Water, outside: u8, inside: u8) -> Entry
-    ensures { result ≡ Tenths (by water in-open outside in-sheltered inside) }
+fn both(water: Water, outside: u8, inside: u8) -> Option<u8>
+    ensures { result ≡ Some (by water in-open outside in-sheltered inside) }
 {
-    Entry::Tenths(watered(water, outside, inside))
+    Some(watered(water, outside, inside))
 }
 
 // A line with a figure for open water and a dash for sheltered water.
-fn open_only(water: Water, outside: u8) -> Entry
-    ensures { result ≡ (by water in-open (Tenths outside) in-sheltered Blank) }
+fn open_only(water: Water, outside: u8) -> Option<u8>
+    ensures { result ≡ (by water in-open (Some outside) in-sheltered None) }
 {
     match water {
-        Water::Open => Entry::Tenths(outside),
-        Water::Sheltered => Entry::Blank,
+        Water::Open => Some(outside),
+        Water::Sheltered => None,
     }
 }
 
 // (c) Cross current, in tenths of a knot: negligible, weak, moderate, strong.
 #[tactic(auto, unfolding(crate::specs::Bands::cross_entry))]
-pub fn cross_entry(water: Water, band: SpeedBand, cross: CrossCurrent) -> Entry
+pub fn cross_entry(water: Water, band: SpeedBand, cross: CrossCurrent) -> Option<u8>
     ensures { result ≡ cross_entry water band cross }
 {
     let current = cross.0;
     if current < 2 {
-        return Entry::Tenths(0);
+        return Some(0);
     }
     if current <= 5 {
         return match band {
@@ -84,11 +83,11 @@ pub fn along_item(band: SpeedBand, along: AlongCurrent) -> u8
 
 // (e) Wave height, in cm: to 1 m, to 3 m, over 3 m.
 #[tactic(auto, unfolding(crate::specs::Bands::wave_entry))]
-pub fn wave_entry(water: Water, band: SpeedBand, wave: u16) -> Entry
+pub fn wave_entry(water: Water, band: SpeedBand, wave: u16) -> Option<u8>
     ensures { result ≡ wave_entry water band wave }
 {
     if wave <= 100 {
-        return Entry::Tenths(0);
+        return Some(0);
     }
     if wave <= 300 {
         return match band {

@@ -28,13 +28,6 @@ pub enum SpeedBand {
     Slow,
 }
 
-// An entry of a table of bands: tenths of the beam, or none.
-#[derive(Clone, Copy)]
-pub enum Entry {
-    Tenths(u8),
-    Blank,
-}
-
 // What the tables of bands give before the depth is known: the water, the speed band, and the tenths of cross current and wave.
 #[derive(Clone, Copy)]
 pub struct Entries {
@@ -42,13 +35,6 @@ pub struct Entries {
     pub band: SpeedBand,
     pub cross: u8,
     pub wave: u8,
-}
-
-// The entries of a stretch, or that its cross current or wave has none.
-#[derive(Clone, Copy)]
-pub enum EntriesFound {
-    Entered(Entries),
-    NoEntry,
 }
 
 // What else the width of a stretch is worked from: the sheet's fields under the sheet's names, its lanes and its sailing depth s.
@@ -84,13 +70,6 @@ pub struct Items {
     pub banks: u8,
     pub passing: u8,
     pub traffic: u8,
-}
-
-// What a bend asks for: a widening in cm, 0 for a straight and a wide bend, or a greater radius.
-#[derive(Clone, Copy)]
-pub enum Bend {
-    Widening(u32),
-    TooTight,
 }
 
 // Why a stretch has no width: its bend is too tight, or its cross current or wave has no entry.
@@ -131,7 +110,7 @@ fn speed_band_of(speed: u8) -> SpeedBand
 }
 
 // The entries of the cross current and the wave, which are known before the depth is.
-pub fn entries_of(water: u8, speed: u8, cross: CrossCurrent, wave: u16) -> EntriesFound
+pub fn entries_of(water: u8, speed: u8, cross: CrossCurrent, wave: u16) -> Result<Entries, WidthFault>
     ensures { result ≡ entries_of water speed cross wave }
 {
     let column = water_of(water);
@@ -139,10 +118,10 @@ pub fn entries_of(water: u8, speed: u8, cross: CrossCurrent, wave: u16) -> Entri
     let current = bands::cross_entry(column, band, cross);
     let height = bands::wave_entry(column, band, wave);
     match current {
-        Entry::Blank => EntriesFound::NoEntry,
-        Entry::Tenths(across) => match height {
-            Entry::Blank => EntriesFound::NoEntry,
-            Entry::Tenths(high) => EntriesFound::Entered(Entries {
+        None => Err(WidthFault::NoWidthEntry),
+        Some(across) => match height {
+            None => Err(WidthFault::NoWidthEntry),
+            Some(high) => Ok(Entries {
                 water: column,
                 band,
                 cross: across,
@@ -219,20 +198,20 @@ pub fn least_radius(turn: u8, length: u16) -> u32
 }
 
 // What a bend of a turn in degrees and a radius in m asks for, by the ship's length in cm, its speed and the lanes.
-pub fn bend_of(turn: u8, radius: u16, length: u16, knots: u8, lanes: Lanes) -> Bend
+pub fn bend_of(turn: u8, radius: u16, length: u16, knots: u8, lanes: Lanes) -> Result<u32, WidthFault>
     ensures value { result ≡ bend_of turn radius length knots lanes }
     ensures small { widening_figure result < 2 ^ 31 }
 {
     if turn == 0 {
-        return Bend::Widening(0);
+        return Ok(0);
     }
     let reach = 100 * (radius as u32);
     let ship = length as u32;
     if reach < bends::least_lengths(turn) * ship {
-        return Bend::TooTight;
+        return Err(WidthFault::BendTooTight);
     }
     if reach < 10 * ship {
-        return Bend::Widening(bends::widening(turn, radius, length, knots, lanes));
+        return Ok(bends::widening(turn, radius, length, knots, lanes));
     }
-    Bend::Widening(0)
+    Ok(0)
 }

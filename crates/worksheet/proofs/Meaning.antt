@@ -1,5 +1,6 @@
 -- What a page shows: all tries in their order, items that add up to the tenths of the width, and the figures of the answer or its refusal.
 -- By what the design is worked from.
+use Rattle.std.specs.Prelude.{Result, Ok, Err}
 use mathlib.Core.Path.{◌≡◌, refl, sym, ap}
 use mathlib.Core.Bool.{Bool, true, false}
 use mathlib.Core.List.{List, [], ◌∷◌, ◌++◌}
@@ -17,17 +18,14 @@ use Rattle.depth.specs.declared.Try.{Try}
 use Rattle.depth.proofs.Promises.{columns_one_to_three}
 use Rattle.design.specs.Answers.{WorkedFrom}
 use Rattle.design.specs.Design.{depth_stretch, design_at}
-use Rattle.design.specs.declared.Answer.TheVariants.{Answered, Refused}
 use Rattle.design.specs.declared.Figures.{Figures}
 use Rattle.design.specs.declared.Reason.{Reason}
-use Rattle.gauge.specs.declared.LevelRead.{LevelRead}
 use Rattle.gauge.specs.declared.LevelSteps.{LevelSteps}
 use Rattle.lanes.specs.declared.Lanes.{Lanes}
 use Rattle.lanes.specs.declared.Lanes.TheVariants.{One, Two}
 use Rattle.sheet.specs.Sheets.{figures_of, read_of}
 use Rattle.sheet.specs.declared.ReadFault.{ReadFault}
 use Rattle.sheet.specs.declared.Sheet.{Sheet}
-use Rattle.sheet.specs.declared.SheetRead.TheVariants.{Good, NoSheet}
 use Rattle.width.specs.Width.{tenths_of}
 use Rattle.width.specs.declared.Items.{Items}
 use Rattle.worksheet.specs.Depths.{tries_from, tries_text, depth_head, depth_part}
@@ -38,6 +36,8 @@ use Rattle.worksheet.specs.Refusals.{no_sheet_text}
 use Rattle.worksheet.specs.Routes.{greater_of}
 use Rattle.worksheet.specs.Rows.{rows_part}
 use Rattle.worksheet.specs.Widths.{nine_tenths, between_tenths}
+use Rattle.datum.specs.declared.Level.{Level}
+use Rattle.gauge.specs.declared.LevelFault.{LevelFault}
 
 -- the tries of a worksheet, blank ones aside
 first_of_three : (l : List Try) → length l ≤ 3 → take (length l) (take 3 (l ++ (blank_try ∷ blank_try ∷ []))) ≡ l
@@ -58,7 +58,7 @@ items_sum One i = omega arith
 items_sum Two i = omega arith
 
 -- of a sheet that is answered
-module _ (s : Sheet) (read : LevelRead) (f : Figures) (w : WorkedFrom s read f) where
+module _ (s : Sheet) (read : Result Level LevelFault) (f : Figures) (w : WorkedFrom s read f) where
   abbrev stretch : Stretch
   stretch = depth_stretch s f.level f.lanes
 
@@ -81,18 +81,18 @@ module _ (s : Sheet) (read : LevelRead) (f : Figures) (w : WorkedFrom s read f) 
   sizes_shown = rw (w.entered, w.depth_worked)
 
 -- the page of a sheet, by what its design comes to
-module _ (index : ℕ) (name bytes : List ℕ) (steps : LevelSteps) (s : Sheet) (r : read_of bytes ≡ Good s) where
-  pub page_answered : (f : Figures) → design_at bytes steps.read ≡ Answered f
+module _ (index : ℕ) (name bytes : List ℕ) (steps : LevelSteps) (s : Sheet) (r : read_of bytes ≡ Ok s) where
+  pub page_answered : (f : Figures) → design_at bytes steps.read ≡ Ok f
       → page_text index name bytes steps ≡ (head_text index name ++ (rows_part (figures_of s) ++ answered_parts s steps f)) ++ end_text bytes
   unfolding page_text sheet_parts
   page_answered f d = rw (r, d)
 
-  pub page_refused : (reason : Reason) → design_at bytes steps.read ≡ Refused reason
+  pub page_refused : (reason : Reason) → design_at bytes steps.read ≡ Err reason
       → page_text index name bytes steps ≡ (head_text index name ++ (rows_part (figures_of s) ++ refused_parts s steps reason)) ++ end_text bytes
   unfolding page_text sheet_parts
   page_refused reason d = rw (r, d)
 
-pub page_unread : (index : ℕ) (name bytes : List ℕ) (steps : LevelSteps) (fault : ReadFault) → read_of bytes ≡ NoSheet fault
+pub page_unread : (index : ℕ) (name bytes : List ℕ) (steps : LevelSteps) (fault : ReadFault) → read_of bytes ≡ Err fault
     → page_text index name bytes steps ≡ (head_text index name ++ no_sheet_text fault (length bytes)) ++ end_text bytes
 unfolding page_text
 page_unread index name bytes steps fault r = rw r

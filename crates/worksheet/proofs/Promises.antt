@@ -1,5 +1,6 @@
 -- What the worksheet promises (section 15): every figure on a page is of a call of a room, put there by the decimals of `lines`, since `page_text` of
 -- specs/Pages.antt, which `put_page` ensures, is made of nothing else.
+use Rattle.std.specs.Prelude.{Result, Ok, Err}
 use mathlib.Core.Path.{◌≡◌}
 use mathlib.Core.List.{List, [], ◌∷◌, ◌++◌}
 use Prim.Native.Nat.{ℕ, ◌+◌, ◌≤◌}
@@ -10,18 +11,14 @@ use Rattle.depth.specs.Worksheet.{tries, worksheet_of}
 use Rattle.depth.specs.declared.Stretch.{Stretch}
 use Rattle.design.specs.Answers.{WorkedFrom}
 use Rattle.design.specs.Design.{depth_stretch, design_at}
-use Rattle.design.specs.declared.Answer.{Answer}
-use Rattle.design.specs.declared.Answer.TheVariants.{Answered, Refused}
 use Rattle.design.specs.declared.Figures.{Figures}
 use Rattle.design.specs.declared.Reason.{Reason}
-use Rattle.gauge.specs.declared.LevelRead.{LevelRead}
 use Rattle.gauge.specs.declared.LevelSteps.{LevelSteps}
 use Rattle.lanes.specs.declared.Lanes.{Lanes}
 use Rattle.lines.specs.Lines.{place_within, buffer_within}
 use Rattle.sheet.specs.Sheets.{figures_of, read_of}
 use Rattle.sheet.specs.declared.ReadFault.{ReadFault}
 use Rattle.sheet.specs.declared.Sheet.{Sheet}
-use Rattle.sheet.specs.declared.SheetRead.TheVariants.{Good, NoSheet}
 use Rattle.width.specs.Width.{tenths_of}
 use Rattle.width.specs.declared.Items.{Items}
 use Rattle.worksheet.specs.Depths.{tries_from, tries_text, depth_head, depth_part}
@@ -35,6 +32,8 @@ use Rattle.worksheet.specs.Widths.{nine_tenths, between_tenths}
 use Rattle.worksheet.specs.declared.Greatest.{Greatest}
 use Rattle.worksheet.specs.declared.Readings.{Readings}
 use Rattle.worksheet.specs.declared.Totals.{Totals}
+use Rattle.datum.specs.declared.Level.{Level}
+use Rattle.gauge.specs.declared.LevelFault.{LevelFault}
 use Rattle.worksheet.proofs.Meaning as meaning
 
 -- The tries on the page are the worksheet's, all of them and in their order,
@@ -42,7 +41,7 @@ pub tries_on_the_page : (q : Stretch) (knots : ℕ) → tries_text (worksheet_of
 tries_on_the_page = meaning.tries_shown
 
 -- and of a sheet that is answered they are as many as the answer's columns.
-module _ (s : Sheet) (read : LevelRead) (f : Figures) (w : WorkedFrom s read f) where
+module _ (s : Sheet) (read : Result Level LevelFault) (f : Figures) (w : WorkedFrom s read f) where
   pub tries_as_many : length (tries (depth_stretch s f.level f.lanes)) ≡ f.columns
   tries_as_many = meaning.tries_counted s read f w
 
@@ -64,15 +63,15 @@ items_add_up = meaning.items_sum
 
 -- A page is that of the answer: of a sheet that is answered, of one that is turned away, and of bytes that are no sheet.
 module _ (index : ℕ) (name bytes : List ℕ) (steps : LevelSteps) where
-  pub page_of_answered : (s : Sheet) → read_of bytes ≡ Good s → (f : Figures) → design_at bytes steps.read ≡ Answered f
+  pub page_of_answered : (s : Sheet) → read_of bytes ≡ Ok s → (f : Figures) → design_at bytes steps.read ≡ Ok f
       → page_text index name bytes steps ≡ (head_text index name ++ (rows_part (figures_of s) ++ answered_parts s steps f)) ++ end_text bytes
   page_of_answered = meaning.page_answered index name bytes steps
 
-  pub page_of_refused : (s : Sheet) → read_of bytes ≡ Good s → (reason : Reason) → design_at bytes steps.read ≡ Refused reason
+  pub page_of_refused : (s : Sheet) → read_of bytes ≡ Ok s → (reason : Reason) → design_at bytes steps.read ≡ Err reason
       → page_text index name bytes steps ≡ (head_text index name ++ (rows_part (figures_of s) ++ refused_parts s steps reason)) ++ end_text bytes
   page_of_refused = meaning.page_refused index name bytes steps
 
-  pub page_of_no_sheet : (fault : ReadFault) → read_of bytes ≡ NoSheet fault
+  pub page_of_no_sheet : (fault : ReadFault) → read_of bytes ≡ Err fault
       → page_text index name bytes steps ≡ (head_text index name ++ no_sheet_text fault (length bytes)) ++ end_text bytes
   page_of_no_sheet = meaning.page_unread index name bytes steps
 
@@ -99,7 +98,7 @@ module _ (at : ℕ) (buffer : List ℕ) where
       → later ≡ buffer_within page_bytes (route_head 1) at buffer → now ≡ later
   head_buffer_unique = one_answer
 
-  module _ (index : ℕ) (answer : Answer) where
+  module _ (index : ℕ) (answer : Result Figures Reason) where
     pub stretch_place_unique : (r s : ℕ) → r ≡ place_within page_bytes (stretch_text index answer) at buffer
         → s ≡ place_within page_bytes (stretch_text index answer) at buffer → r ≡ s
     stretch_place_unique = one_answer
@@ -120,5 +119,5 @@ module _ (at : ℕ) (buffer : List ℕ) where
 pub none_yet_unique : (g h : Greatest) → g ≡ none_yet → h ≡ none_yet → g ≡ h
 none_yet_unique = one_answer
 
-pub with_stretch_unique : (before : Greatest) (answer : Answer) (g h : Greatest) → g ≡ with_stretch before answer → h ≡ with_stretch before answer → g ≡ h
+pub with_stretch_unique : (before : Greatest) (answer : Result Figures Reason) (g h : Greatest) → g ≡ with_stretch before answer → h ≡ with_stretch before answer → g ≡ h
 with_stretch_unique before answer = one_answer

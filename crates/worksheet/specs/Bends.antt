@@ -1,20 +1,20 @@
 -- The bend: its least radius, its radius and its widening (section 15.9).
-use Rattle.std.specs.Prelude.{ℕ, List, [], ◌∷◌}
+use Rattle.std.specs.Prelude.{ℕ, List, [], ◌∷◌, Result, Ok, Err}
 use Rattle.laws.specs.Choice.{ifᵇ◌then◌else◌, ◌=ᵇ◌}
 use Rattle.blanks.specs.declared.Figure.TheVariants.{Count}
 use Rattle.lanes.specs.declared.Lanes.{Lanes}
 use Rattle.typed.specs.Rows.{bytes_of}
 use Rattle.width.specs.Bends.{bend_of, least_radius}
-use Rattle.width.specs.declared.Bend.{Bend}
-use Rattle.width.specs.declared.Bend.TheVariants.{Widening, TooTight}
 use Rattle.worksheet.specs.Filling.{with}
+use Rattle.width.specs.declared.WidthFault.TheVariants.{BendTooTight}
+use Rattle.width.specs.declared.WidthFault.{WidthFault}
 
 -- what a bend asks for
-abbrev pub bend_text : Bend → ℕ → ℕ → ℕ → List ℕ
-bend_text (Widening cm) turn radius length =
+abbrev pub bend_text : Result ℕ WidthFault → ℕ → ℕ → ℕ → List ℕ
+bend_text (Ok cm) turn radius length =
     with "BEND\n  turn %0 deg, least radius %0 m, radius %0 m, widening %0 cm\n"
     (Count turn ∷ Count (least_radius turn length) ∷ Count radius ∷ Count cm ∷ [])
-bend_text TooTight turn radius length =
+bend_text (Err BendTooTight) turn radius length =
     with "BEND\n  turn %0 deg, least radius %0 m, radius %0 m: too tight\n" (Count turn ∷ Count (least_radius turn length) ∷ Count radius ∷ [])
 
 unfoldable pub bend_part : ℕ → ℕ → ℕ → ℕ → Lanes → List ℕ

@@ -1,22 +1,21 @@
 -- The depth: its allowances, each try, and the cut (section 15.7).
-use Rattle.std.specs.Prelude.{ℕ, ◌+◌, List, [], ◌∷◌, ◌++◌, take}
+use Rattle.std.specs.Prelude.{ℕ, ◌+◌, List, [], ◌∷◌, ◌++◌, take, Result, Ok, Err}
 use Rattle.laws.specs.Choice.{ifᵇ◌then◌else◌, ◌<ᵇ◌}
 use Rattle.blanks.specs.declared.Figure.TheVariants.{Count, Signed}
 use Rattle.datum.specs.Datum.{datum_depth}
 use Rattle.datum.specs.declared.Level.{Level}
 use Rattle.depth.specs.Depth.{allowances_of}
 use Rattle.depth.specs.Worksheet.{endless, finding_of, worksheet_of, work_depth}
-use Rattle.depth.specs.declared.Depth.{Depth}
-use Rattle.depth.specs.declared.Depth.TheVariants.{Cut, NoCut}
 use Rattle.depth.specs.declared.DepthFault.{DepthFault}
 use Rattle.depth.specs.declared.DepthFault.TheVariants.{NoSquatEntry, SiltOver, CutOver}
-use Rattle.depth.specs.declared.Finding.{Finding}
-use Rattle.depth.specs.declared.Finding.TheVariants.{Stays, Moves, Unusable}
+use Rattle.depth.specs.declared.Finding.TheVariants.{Stays, Moves}
 use Rattle.depth.specs.declared.Stretch.{Stretch}
 use Rattle.depth.specs.declared.Try.{Try}
 use Rattle.depth.specs.declared.Worksheet.{Worksheet}
 use Rattle.typed.specs.Rows.{bytes_of}
 use Rattle.worksheet.specs.Filling.{with, column_letter}
+use Rattle.depth.specs.declared.Finding.{Finding}
+use Rattle.depth.specs.declared.DepthFigures.{DepthFigures}
 
 -- the numbers of a try: which it is, its column, z3, s, z4, its figure, and the column that it falls in
 unfoldable pub try_numbers : ℕ → Try → List ℕ
@@ -40,10 +39,10 @@ unusable_line SiltOver number t knots = silt_line number t
 unusable_line CutOver number t knots = try_numbers number t ++ bytes_of "unusable: cut over 3000\n"
 
 -- the line of a try, by what it comes to
-abbrev pub try_by : Finding → ℕ → Try → ℕ → List ℕ
-try_by Stays number t knots = try_numbers number t ++ bytes_of "stays\n"
-try_by Moves number t knots = try_numbers number t ++ with "moves to %0\n" (column_letter t.falls_in ∷ [])
-try_by (Unusable fault) number t knots = unusable_line fault number t knots
+abbrev pub try_by : Result Finding DepthFault → ℕ → Try → ℕ → List ℕ
+try_by (Ok Stays) number t knots = try_numbers number t ++ bytes_of "stays\n"
+try_by (Ok Moves) number t knots = try_numbers number t ++ with "moves to %0\n" (column_letter t.falls_in ∷ [])
+try_by (Err fault) number t knots = unusable_line fault number t knots
 
 unfoldable pub try_line : ℕ → Try → ℕ → List ℕ
 try_line number t knots = try_by (finding_of t) number t knots
@@ -64,11 +63,11 @@ depth_head q =
     (Count q.draft ∷ Count q.natural.0 ∷ Count (allowances_of q).list ∷ Count (allowances_of q).keel ∷ Count (allowances_of q).wave ∷ [])
 
 -- the cut, the sailing depth and the datum depth, where there is a depth
-abbrev pub cut_by : Depth → Level → List ℕ
-cut_by (Cut f) level =
+abbrev pub cut_by : Result DepthFigures DepthFault → Level → List ℕ
+cut_by (Ok f) level =
     with "  cut %0   sailing depth s %0   datum depth %0 below chart datum\n"
     (Count f.cut.0 ∷ Count f.sailing.0 ∷ Signed (datum_depth f.cut level).0 ∷ [])
-cut_by (NoCut fault) level = []
+cut_by (Err fault) level = []
 
 unfoldable pub depth_part : Stretch → Level → List ℕ
 depth_part q level = (depth_head q ++ tries_text (worksheet_of q) q.speed) ++ cut_by (work_depth q) level

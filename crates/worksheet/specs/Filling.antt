@@ -1,5 +1,5 @@
 -- Lines with blanks, and the figures that fill them (section 15.1).
-use Rattle.std.specs.Prelude.{ℕ, List, [], ◌++◌, ℤ, pos, negsuc, take, replicate}
+use Rattle.std.specs.Prelude.{ℕ, List, [], ◌++◌, ℤ, pos, negsuc, take, replicate, Option, Some, None}
 use Prim.Native.String.{String}
 use Rattle.laws.specs.Choice.{ifᵇ◌then◌else◌, ◌=ᵇ◌}
 use Rattle.blanks.specs.Blanks.{filled}
@@ -9,8 +9,6 @@ use Rattle.datum.specs.Datum.{level_of}
 use Rattle.datum.specs.declared.Level.{Level}
 use Rattle.depth.specs.declared.Column.{Column}
 use Rattle.depth.specs.declared.Column.TheVariants.{A, B, C}
-use Rattle.speed.specs.declared.Speed.{Speed}
-use Rattle.speed.specs.declared.Speed.TheVariants.{Parts, Missing}
 use Rattle.typed.specs.Rows.{bytes_of}
 
 -- eight figures; no blank asks for those behind the text's own
@@ -40,9 +38,9 @@ unfoldable pub limit_figure : ℕ → Figure
 limit_figure limit = ifᵇ limit =ᵇ 0 then Nothing else Count limit
 
 -- a speed, where there is one
-abbrev pub speed_figure : Speed → Figure
-speed_figure (Parts parts) = Count parts
-speed_figure Missing = Nothing
+abbrev pub speed_figure : Option ℕ → Figure
+speed_figure (Some parts) = Count parts
+speed_figure None = Nothing
 
 -- a figure of an answer without its sign, which none has
 abbrev pub unsigned_of : ℤ → ℕ

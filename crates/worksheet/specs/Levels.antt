@@ -1,15 +1,14 @@
 -- The design level: given, or how it is read off the record (section 15.5).
-use Rattle.std.specs.Prelude.{ℕ, List, [], ◌∷◌, ◌++◌}
+use Rattle.std.specs.Prelude.{ℕ, List, [], ◌∷◌, ◌++◌, Result, Ok, Err}
 use Rattle.blanks.specs.declared.Figure.TheVariants.{Count}
 use Rattle.gauge.specs.declared.LevelFault.{LevelFault}
 use Rattle.gauge.specs.declared.LevelFault.TheVariants.{WrongTable, TooFewReadings, RangeTooWide}
-use Rattle.gauge.specs.declared.LevelRead.{LevelRead}
-use Rattle.gauge.specs.declared.LevelRead.TheVariants.{Found, NoLevel}
 use Rattle.gauge.specs.declared.LevelSteps.{LevelSteps}
 use Rattle.sheet.specs.declared.LevelSource.{LevelSource}
 use Rattle.sheet.specs.declared.LevelSource.TheVariants.{FromRecord, Given}
 use Rattle.typed.specs.Rows.{bytes_of}
 use Rattle.worksheet.specs.Filling.{with, level_figure}
+use Rattle.datum.specs.declared.Level.{Level}
 
 -- how far the level is read where there is none
 abbrev pub no_level_text : LevelFault → LevelSteps → List ℕ
@@ -20,8 +19,8 @@ no_level_text RangeTooWide steps =
     (Count steps.readings ∷ level_figure steps.half ∷ level_figure steps.whole ∷ Count steps.range ∷ [])
 
 -- the steps to a level
-abbrev pub steps_text : LevelRead → LevelSteps → List ℕ
-steps_text (Found level) steps =
+abbrev pub steps_text : Result Level LevelFault → LevelSteps → List ℕ
+steps_text (Ok level) steps =
     with "  readings %0   H50 %0   H100 %0   D %0   D takes H%0\n  design level %0 cm\n"
     (Count steps.readings
     ∷ level_figure steps.half
@@ -30,7 +29,7 @@ steps_text (Found level) steps =
     ∷ Count steps.frequency
     ∷ level_figure level
     ∷ [])
-steps_text (NoLevel fault) steps = no_level_text fault steps
+steps_text (Err fault) steps = no_level_text fault steps
 
 unfoldable pub record_part : LevelSteps → List ℕ
 record_part steps = bytes_of "LEVEL above chart datum, off the record\n" ++ steps_text steps.read steps

@@ -1,35 +1,25 @@
 -- A page: its parts in their order, by what the design comes to (section 15.2).
-use Rattle.std.specs.Prelude.{ℕ, List, [], ◌++◌, length}
+use Rattle.std.specs.Prelude.{ℕ, List, [], ◌++◌, length, Result, Ok, Err}
 use Rattle.datum.specs.declared.Level.{Level}
 use Rattle.depth.specs.Worksheet.{work_depth}
-use Rattle.depth.specs.declared.Depth.{Depth}
-use Rattle.depth.specs.declared.Depth.TheVariants.{Cut, NoCut}
 use Rattle.depth.specs.declared.DepthFault.{DepthFault}
 use Rattle.depth.specs.declared.DepthFigures.{DepthFigures}
 use Rattle.design.specs.Design.{depth_stretch, width_stretch, speed_section, lanes_for, level_for, design_at}
-use Rattle.design.specs.declared.Answer.{Answer}
-use Rattle.design.specs.declared.Answer.TheVariants.{Answered, Refused}
 use Rattle.design.specs.declared.Figures.{Figures}
 use Rattle.design.specs.declared.Reason.{Reason}
 use Rattle.design.specs.declared.Reason.TheVariants.{NoSheet, NoShip, NoLevel, NoWidth, NoDepth, NoSpeed}
 use Rattle.gauge.specs.declared.LevelFault.{LevelFault}
-use Rattle.gauge.specs.declared.LevelRead.{LevelRead}
-use Rattle.gauge.specs.declared.LevelRead.TheVariants.{Found, NoLevel as NotFound}
 use Rattle.gauge.specs.declared.LevelSteps.{LevelSteps}
 use Rattle.lanes.specs.declared.Lanes.{Lanes}
 use Rattle.sheet.specs.Sheets.{figures_of, read_of}
 use Rattle.sheet.specs.declared.LevelSource.{LevelSource}
 use Rattle.sheet.specs.declared.Sheet.{Sheet}
-use Rattle.sheet.specs.declared.SheetRead.{SheetRead}
-use Rattle.sheet.specs.declared.SheetRead.TheVariants.{Good, NoSheet as Unread}
 use Rattle.speed.specs.declared.Section.{Section}
 use Rattle.speed.specs.declared.SpeedFault.{SpeedFault}
 use Rattle.width.specs.Bands.{entries_of}
 use Rattle.width.specs.Bends.{least_radius}
 use Rattle.width.specs.Width.{width_of}
 use Rattle.width.specs.declared.Entries.{Entries}
-use Rattle.width.specs.declared.EntriesFound.{EntriesFound}
-use Rattle.width.specs.declared.EntriesFound.TheVariants.{Entered, NoEntry}
 use Rattle.width.specs.declared.WidthFault.{WidthFault}
 use Rattle.worksheet.specs.Bends.{bend_part}
 use Rattle.worksheet.specs.Classes.{classes_part}
@@ -41,13 +31,15 @@ use Rattle.worksheet.specs.Rows.{rows_part}
 use Rattle.worksheet.specs.Speeds.{speed_part}
 use Rattle.worksheet.specs.Traffic.{lanes_part}
 use Rattle.worksheet.specs.Widths.{width_part}
+use Rattle.sheet.specs.declared.ReadFault.{ReadFault}
+use Rattle.width.specs.declared.WidthFault.TheVariants.{NoWidthEntry}
 
 -- the level of a sheet that has one
-abbrev pub found_level : LevelRead → Level
-found_level (Found level) = level
-found_level (NotFound fault) = record { 0 = 0 }
+abbrev pub found_level : Result Level LevelFault → Level
+found_level (Ok level) = level
+found_level (Err fault) = record { 0 = 0 }
 
-abbrev pub level_at : LevelSource → LevelRead → Level
+abbrev pub level_at : LevelSource → Result Level LevelFault → Level
 level_at source read = found_level (level_for source read)
 
 abbrev pub level_of_sheet : Sheet → LevelSteps → Level
@@ -60,7 +52,7 @@ front_text s steps = level_part s.level steps ++ lanes_part s.lanes s.channel s.
 abbrev pub bend_for : Sheet → Lanes → List ℕ
 bend_for s lanes = bend_part s.turn s.radius s.length s.speed lanes
 
-abbrev pub entries_for : Sheet → EntriesFound
+abbrev pub entries_for : Sheet → Result Entries WidthFault
 entries_for s = entries_of s.water s.speed s.cross s.wave
 
 -- the section of a sheet whose width and depth are known
@@ -73,10 +65,10 @@ sized_text s level lanes e d =
     (width_part (width_stretch s lanes d.sailing) e s.cross s.wave ++ bend_for s lanes)
     ++ speed_part (section_for s level lanes e d) s.speed
 
-abbrev pub sized_by : Sheet → Level → Lanes → EntriesFound → Depth → List ℕ
-sized_by s level lanes NoEntry d = []
-sized_by s level lanes (Entered e) (NoCut fault) = []
-sized_by s level lanes (Entered e) (Cut d) = sized_text s level lanes e d
+abbrev pub sized_by : Sheet → Level → Lanes → Result Entries WidthFault → Result DepthFigures DepthFault → List ℕ
+sized_by s level lanes (Err NoWidthEntry) d = []
+sized_by s level lanes (Ok e) (Err fault) = []
+sized_by s level lanes (Ok e) (Ok d) = sized_text s level lanes e d
 
 -- the depth, the width, the bend and the speed
 unfoldable pub sizes_text : Sheet → Level → Lanes → List ℕ
@@ -106,10 +98,10 @@ no_depth_parts s steps fault =
 abbrev pub no_section : Section
 no_section = record { natural = record { 0 = 0 }; cut = record { 0 = 0 }; width = 0; slope = 0 }
 
-abbrev pub section_by : Sheet → Level → Lanes → EntriesFound → Depth → Section
-section_by s level lanes NoEntry d = no_section
-section_by s level lanes (Entered e) (NoCut fault) = no_section
-section_by s level lanes (Entered e) (Cut d) = section_for s level lanes e d
+abbrev pub section_by : Sheet → Level → Lanes → Result Entries WidthFault → Result DepthFigures DepthFault → Section
+section_by s level lanes (Err NoWidthEntry) d = no_section
+section_by s level lanes (Ok e) (Err fault) = no_section
+section_by s level lanes (Ok e) (Ok d) = section_for s level lanes e d
 
 -- 16 and 17
 unfoldable pub no_speed_parts : Sheet → LevelSteps → SpeedFault → List ℕ
@@ -129,18 +121,18 @@ refused_parts s steps (NoDepth fault) = no_depth_parts s steps fault
 refused_parts s steps (NoSpeed fault) = no_speed_parts s steps fault
 
 -- what the design of a sheet comes to
-abbrev pub answer_parts : Sheet → LevelSteps → Answer → List ℕ
-answer_parts s steps (Answered f) = answered_parts s steps f
-answer_parts s steps (Refused reason) = refused_parts s steps reason
+abbrev pub answer_parts : Sheet → LevelSteps → Result Figures Reason → List ℕ
+answer_parts s steps (Ok f) = answered_parts s steps f
+answer_parts s steps (Err reason) = refused_parts s steps reason
 
 -- a sheet, and what its design comes to
-unfoldable pub sheet_parts : Sheet → LevelSteps → Answer → List ℕ
+unfoldable pub sheet_parts : Sheet → LevelSteps → Result Figures Reason → List ℕ
 sheet_parts s steps answer = rows_part (figures_of s) ++ answer_parts s steps answer
 
 -- what bytes are read as
-abbrev pub body_by : SheetRead → ℕ → LevelSteps → Answer → List ℕ
-body_by (Good s) bytes steps answer = sheet_parts s steps answer
-body_by (Unread fault) bytes steps answer = no_sheet_text fault bytes
+abbrev pub body_by : Result Sheet ReadFault → ℕ → LevelSteps → Result Figures Reason → List ℕ
+body_by (Ok s) bytes steps answer = sheet_parts s steps answer
+body_by (Err fault) bytes steps answer = no_sheet_text fault bytes
 
 -- the page of bytes, by its index and its name, over the record's steps to its level
 unfoldable pub page_text : ℕ → List ℕ → List ℕ → LevelSteps → List ℕ

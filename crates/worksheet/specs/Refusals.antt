@@ -1,5 +1,5 @@
 -- Why a sheet is turned away, and what it would need to pass (section 15.12).
-use Rattle.std.specs.Prelude.{ℕ, ◌-◌, ◌*◌, ◌/◌, ◌%◌, List, [], ◌∷◌, ◌++◌, get_or}
+use Rattle.std.specs.Prelude.{ℕ, ◌-◌, ◌*◌, ◌/◌, ◌%◌, List, [], ◌∷◌, ◌++◌, get_or, Option, Some, None}
 use Rattle.laws.specs.Choice.{ifᵇ◌then◌else◌, ◌<ᵇ◌, ◌≤ᵇ◌, ◌=ᵇ◌}
 use Rattle.blanks.specs.declared.Figure.TheVariants.{Count}
 use Rattle.datum.specs.declared.CrossCurrent.{CrossCurrent}
@@ -19,8 +19,6 @@ use Rattle.sheet.specs.declared.ReadFault.{ReadFault}
 use Rattle.sheet.specs.declared.ReadFault.TheVariants.{WrongLength, SpareBitSet, BadField}
 use Rattle.speed.specs.Shown.{parts_shown}
 use Rattle.speed.specs.declared.Section.{Section}
-use Rattle.speed.specs.declared.Speed.{Speed}
-use Rattle.speed.specs.declared.Speed.TheVariants.{Parts, Missing}
 use Rattle.speed.specs.declared.SpeedFault.{SpeedFault}
 use Rattle.speed.specs.declared.SpeedFault.TheVariants.{PointMissing, TooFast}
 use Rattle.typed.specs.Lines.{line_text}
@@ -107,11 +105,11 @@ unfoldable pub no_depth_text : DepthFault → Stretch → List ℕ
 no_depth_text fault q = no_cut_text fault (last_of (worksheet_of q)) q.speed (q.silting * q.interval)
 
 -- 17
-abbrev pub too_fast_text : Speed → ℕ → List ℕ
-too_fast_text (Parts hundredths) knots =
+abbrev pub too_fast_text : Option ℕ → ℕ → List ℕ
+too_fast_text (Some hundredths) knots =
     with "REFUSED 17: the ship is too fast\n  nine tenths of the critical speed: %0.%0%0 kn; the sheet has %0 kn\n"
     (Count (hundredths / 100) ∷ Count (hundredths / 10 % 10) ∷ Count (hundredths % 10) ∷ Count knots ∷ [])
-too_fast_text Missing knots = []
+too_fast_text None knots = []
 
 -- 16 and 17
 abbrev pub no_speed_text : SpeedFault → Section → ℕ → List ℕ

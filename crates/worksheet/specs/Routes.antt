@@ -1,11 +1,9 @@
 -- The pages of the route: its stretches in a table, and the end (section 15.13).
-use Rattle.std.specs.Prelude.{ℕ, ◌+◌, ◌-◌, ◌/◌, ◌%◌, List, [], ◌∷◌, ◌++◌}
+use Rattle.std.specs.Prelude.{ℕ, ◌+◌, ◌-◌, ◌/◌, ◌%◌, List, [], ◌∷◌, ◌++◌, Result, Ok, Err}
 use Rattle.laws.specs.Choice.{ifᵇ◌then◌else◌, ◌<ᵇ◌, ◌=ᵇ◌}
 use Rattle.blanks.specs.declared.Figure.{Figure}
 use Rattle.blanks.specs.declared.Figure.TheVariants.{Count, Signed, Nothing}
 use Rattle.design.specs.Numbers.{code_of}
-use Rattle.design.specs.declared.Answer.{Answer}
-use Rattle.design.specs.declared.Answer.TheVariants.{Answered, Refused}
 use Rattle.design.specs.declared.Figures.{Figures}
 use Rattle.lanes.specs.Lanes.{lane_count}
 use Rattle.worksheet.specs.Filling.{with, level_figure, unsigned_of}
@@ -13,6 +11,7 @@ use Rattle.worksheet.specs.Framing.{signature_text}
 use Rattle.worksheet.specs.declared.Greatest.{Greatest}
 use Rattle.worksheet.specs.declared.Readings.{Readings}
 use Rattle.worksheet.specs.declared.Totals.{Totals}
+use Rattle.design.specs.declared.Reason.{Reason}
 
 -- before the first stretch, and with one more that is answered
 abbrev pub none_yet : Greatest
@@ -24,9 +23,9 @@ greater_of one other = ifᵇ one <ᵇ other then other else one
 unfoldable pub with_figures : Greatest → Figures → Greatest
 with_figures g f = record { cut = greater_of g.cut f.cut.0; width = greater_of g.width (unsigned_of f.width) }
 
-abbrev pub with_stretch : Greatest → Answer → Greatest
-with_stretch g (Answered f) = with_figures g f
-with_stretch g (Refused reason) = g
+abbrev pub with_stretch : Greatest → Result Figures Reason → Greatest
+with_stretch g (Ok f) = with_figures g f
+with_stretch g (Err reason) = g
 
 -- the head of a page
 unfoldable pub route_head : ℕ → List ℕ
@@ -46,11 +45,11 @@ answered_line index f =
     (Count f.cut.0 ∷ Signed f.datum.0 ∷ Signed f.width ∷ Signed f.widening ∷ Count f.classes.ship ∷ [])
 
 -- the line of a stretch
-abbrev pub line_by : ℕ → Answer → List ℕ
-line_by index (Answered f) = answered_line index f
-line_by index (Refused reason) = with "%7  %4  refused\n" (Count index ∷ Count (code_of (Refused reason)) ∷ [])
+abbrev pub line_by : ℕ → Result Figures Reason → List ℕ
+line_by index (Ok f) = answered_line index f
+line_by index (Err reason) = with "%7  %4  refused\n" (Count index ∷ Count (code_of (Err reason)) ∷ [])
 
-unfoldable pub stretch_text : ℕ → Answer → List ℕ
+unfoldable pub stretch_text : ℕ → Result Figures Reason → List ℕ
 stretch_text index answer = new_page index ++ line_by index answer
 
 -- a greatest figure, where a stretch is answered

@@ -1,20 +1,18 @@
 -- The critical speed with its parts, where the side slope asks for it (section 15.10).
-use Rattle.std.specs.Prelude.{ℕ, ◌/◌, ◌%◌, List, [], ◌∷◌, ◌++◌}
+use Rattle.std.specs.Prelude.{ℕ, ◌/◌, ◌%◌, List, [], ◌∷◌, ◌++◌, Option, Some, None}
 use Rattle.laws.specs.Choice.{ifᵇ◌then◌else◌, ◌=ᵇ◌}
 use Rattle.blanks.specs.declared.Figure.TheVariants.{Count}
 use Rattle.speed.specs.Shown.{parts_shown}
 use Rattle.speed.specs.declared.Section.{Section}
-use Rattle.speed.specs.declared.Speed.{Speed}
-use Rattle.speed.specs.declared.Speed.TheVariants.{Parts, Missing}
 use Rattle.speed.specs.declared.SpeedParts.{SpeedParts}
 use Rattle.worksheet.specs.Filling.{with, speed_figure}
 
 -- nine tenths of the critical speed, where there is one
-abbrev pub fastest_text : Speed → ℕ → List ℕ
-fastest_text (Parts hundredths) knots =
+abbrev pub fastest_text : Option ℕ → ℕ → List ℕ
+fastest_text (Some hundredths) knots =
     with "  nine tenths of it, rounded down: %0.%0%0 kn; the ship: %0 kn\n"
     (Count (hundredths / 100) ∷ Count (hundredths / 10 % 10) ∷ Count (hundredths % 10) ∷ Count knots ∷ [])
-fastest_text Missing knots = []
+fastest_text None knots = []
 
 -- V', V'', h and the joined speed
 unfoldable pub parts_text : ℕ → ℕ → SpeedParts → List ℕ

@@ -5,16 +5,16 @@ ghost use Rattle.worksheet.specs.Bends.{bend_text, bend_part};
 
 use crate::filling;
 use lanes::Lanes;
-use width::Bend;
+use width::WidthFault;
 
 // What a bend asks for.
-fn put_bend_of(bend: Bend, turn: u8, radius: u16, ship: u16, buffer: &mut [u8], at: usize) -> usize
+fn put_bend_of(bend: Result<u32, WidthFault>, turn: u8, radius: u16, ship: u16, buffer: &mut [u8], at: usize) -> usize
     requires { at + 900 ≤ length buffer.old }
     ensures { Put buffer.old at (bend_text bend turn radius ship) buffer.new result × (result ≤ at + 900) }
 {
     let least = width::least_radius(turn, ship);
     match bend {
-        Bend::Widening(cm) => filling::put(
+        Ok(cm) => filling::put(
             b"BEND\n  turn %0 deg, least radius %0 m, radius %0 m, widening %0 cm\n",
             filling::four(
                 filling::small(turn),
@@ -25,7 +25,7 @@ fn put_bend_of(bend: Bend, turn: u8, radius: u16, ship: u16, buffer: &mut [u8], 
             buffer,
             at,
         ),
-        Bend::TooTight => filling::put(
+        Err(WidthFault::BendTooTight) => filling::put(
             b"BEND\n  turn %0 deg, least radius %0 m, radius %0 m: too tight\n",
             filling::three(
                 filling::small(turn),

@@ -6,7 +6,7 @@ ghost use Rattle.worksheet.specs.Depths.{try_numbers, silt_line, unusable_line, 
 use crate::filling;
 use blanks::Figure;
 use datum::Level;
-use depth::{Depth, DepthFault, Finding, Stretch, Try, Worksheet};
+use depth::{DepthFault, DepthFigures, Finding, Stretch, Try, Worksheet};
 
 // The numbers of a try: which it is, and what it has.
 fn put_numbers(number: u64, tried: Try, buffer: &mut [u8], at: usize) -> usize
@@ -97,7 +97,7 @@ fn put_unusable(
 
 // The line of a try, by what it comes to.
 fn put_found(
-    finding: Finding,
+    finding: Result<Finding, DepthFault>,
     number: u64,
     tried: Try,
     knots: u8,
@@ -108,11 +108,11 @@ fn put_found(
     ensures { Put buffer.old at (try_by finding number tried knots) buffer.new result × (result ≤ at + 800) }
 {
     match finding {
-        Finding::Stays => {
+        Ok(Finding::Stays) => {
             let end = put_numbers(number, tried, buffer, at);
             filling::put_bytes(b"stays\n", buffer, end)
         }
-        Finding::Moves => {
+        Ok(Finding::Moves) => {
             let end = put_numbers(number, tried, buffer, at);
             let falls_in = tried.falls_in;
             filling::put(
@@ -122,7 +122,7 @@ fn put_found(
                 end,
             )
         }
-        Finding::Unusable(fault) => put_unusable(fault, number, tried, knots, buffer, at),
+        Err(fault) => put_unusable(fault, number, tried, knots, buffer, at),
     }
 }
 
@@ -169,12 +169,12 @@ fn put_head(stretch: Stretch, buffer: &mut [u8], at: usize) -> usize
 }
 
 // The cut, the sailing depth and the datum depth, where there is a depth.
-fn put_cut(depth: Depth, level: Level, buffer: &mut [u8], at: usize) -> usize
+fn put_cut(depth: Result<DepthFigures, DepthFault>, level: Level, buffer: &mut [u8], at: usize) -> usize
     requires { at + 800 ≤ length buffer.old }
     ensures { Put buffer.old at (cut_by depth level) buffer.new result × (result ≤ at + 800) }
 {
     match depth {
-        Depth::Cut(found) => {
+        Ok(found) => {
             let cut = found.cut;
             let sailing = found.sailing;
             let datum = datum::datum_depth(cut, level);
@@ -189,7 +189,7 @@ fn put_cut(depth: Depth, level: Level, buffer: &mut [u8], at: usize) -> usize
                 at,
             )
         }
-        Depth::NoCut(_) => at,
+        Err(_) => at,
     }
 }
 

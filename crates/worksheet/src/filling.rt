@@ -9,7 +9,6 @@ ghost use Rattle.blanks.specs.declared.Figure.TheVariants.{Count};
 use blanks::Figure;
 use datum::Level;
 use depth::Column;
-use speed::Speed;
 
 // Puts a text whose blanks take words from a table.
 pub fn put_worded(
@@ -78,12 +77,12 @@ pub fn limit_figure(limit: u32) -> Figure
 }
 
 // A speed, where there is one.
-pub fn speed_figure(speed: Speed) -> Figure
+pub fn speed_figure(speed: Option<u64>) -> Figure
     ensures { result ≡ speed_figure speed }
 {
     match speed {
-        Speed::Parts(parts) => Figure::Count(parts),
-        Speed::Missing => Figure::Nothing,
+        Some(parts) => Figure::Count(parts),
+        None => Figure::Nothing,
     }
 }
 

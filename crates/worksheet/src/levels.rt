@@ -5,8 +5,9 @@ ghost use Rattle.worksheet.specs.Levels.{steps_text, no_level_text, record_part,
 
 use crate::filling;
 use blanks::Figure;
-use gauge::{LevelFault, LevelRead, LevelSteps};
+use gauge::{LevelFault, LevelSteps};
 use sheet::LevelSource;
+use datum::Level;
 
 // How far the level is read where there is none.
 fn put_no_level(fault: LevelFault, steps: LevelSteps, buffer: &mut [u8], at: usize) -> usize
@@ -36,12 +37,12 @@ fn put_no_level(fault: LevelFault, steps: LevelSteps, buffer: &mut [u8], at: usi
 }
 
 // The steps to a level.
-fn put_steps(read: LevelRead, steps: LevelSteps, buffer: &mut [u8], at: usize) -> usize
+fn put_steps(read: Result<Level, LevelFault>, steps: LevelSteps, buffer: &mut [u8], at: usize) -> usize
     requires { at + 1000 ≤ length buffer.old }
     ensures { Put buffer.old at (steps_text read steps) buffer.new result × (result ≤ at + 1000) }
 {
     match read {
-        LevelRead::Found(level) => filling::put(
+        Ok(level) => filling::put(
             b"  readings %0   H50 %0   H100 %0   D %0   D takes H%0\n  design level %0 cm\n",
             filling::six(
                 Figure::Count(steps.readings),
@@ -54,7 +55,7 @@ fn put_steps(read: LevelRead, steps: LevelSteps, buffer: &mut [u8], at: usize) -
             buffer,
             at,
         ),
-        LevelRead::NoLevel(fault) => put_no_level(fault, steps, buffer, at),
+        Err(fault) => put_no_level(fault, steps, buffer, at),
     }
 }
 

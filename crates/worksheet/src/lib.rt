@@ -7,8 +7,8 @@ ghost use Rattle.worksheet.specs.Framing.{page_bytes};
 ghost use Rattle.worksheet.specs.Pages.{page_text};
 ghost use Rattle.worksheet.specs.Routes.{none_yet, with_stretch, route_head, stretch_text, foot_text};
 
-use design::Answer;
 use gauge::LevelSteps;
+use design::{Figures, Reason};
 
 mod bends;
 mod classes;
@@ -81,7 +81,7 @@ pub fn put_route_head(buffer: &mut [u8], at: usize) -> usize
 }
 
 // Puts the line of a stretch likewise, behind the head of a new page where one begins.
-pub fn put_stretch(index: u64, answer: Answer, buffer: &mut [u8], at: usize) -> usize
+pub fn put_stretch(index: u64, answer: Result<Figures, Reason>, buffer: &mut [u8], at: usize) -> usize
     ensures { (result ≡ place_within page_bytes (stretch_text index answer) at buffer.old) × (buffer.new ≡ buffer_within page_bytes (stretch_text index answer) at buffer.old) }
 {
     if !lines::fits(buffer.len(), at, PAGE_BYTES) {
@@ -114,11 +114,11 @@ pub fn none_yet() -> Greatest
 }
 
 // With one more.
-pub fn with_stretch(greatest: Greatest, answer: Answer) -> Greatest
+pub fn with_stretch(greatest: Greatest, answer: Result<Figures, Reason>) -> Greatest
     ensures { result ≡ with_stretch greatest answer }
 {
     match answer {
-        Answer::Answered(figures) => routes::greater(greatest, figures),
-        Answer::Refused(_) => greatest,
+        Ok(figures) => routes::greater(greatest, figures),
+        Err(_) => greatest,
     }
 }

@@ -6,21 +6,21 @@ ghost use Rattle.worksheet.specs.Pages.{level_at, front_text, bend_for, section_
 
 use crate::{bends, classes, depths, framing, levels, refusals, rows, speeds, traffic, widths};
 use datum::{BelowLevel, Level};
-use depth::{Depth, DepthFault, DepthFigures};
-use design::{Answer, Figures, Reason, working};
-use gauge::{LevelFault, LevelRead, LevelSteps};
+use depth::{DepthFault, DepthFigures};
+use design::{Figures, Reason, working};
+use gauge::{LevelFault, LevelSteps};
 use lanes::Lanes;
-use sheet::{LevelSource, Sheet, SheetRead};
+use sheet::{LevelSource, ReadFault, Sheet};
 use speed::{Section, SpeedFault};
-use width::{Entries, EntriesFound, WidthFault};
+use width::{Entries, WidthFault};
 
 // The level of a sheet that has one.
-fn level_at(source: LevelSource, read: LevelRead) -> Level
+fn level_at(source: LevelSource, read: Result<Level, LevelFault>) -> Level
     ensures { result ≡ level_at source read }
 {
     match working::level_for(source, read) {
-        LevelRead::Found(level) => level,
-        LevelRead::NoLevel(_) => Level(0),
+        Ok(level) => level,
+        Err(_) => Level(0),
     }
 }
 
@@ -113,8 +113,8 @@ fn put_sized_by(
     sheet: Sheet,
     level: Level,
     lanes: Lanes,
-    entries: EntriesFound,
-    depth: Depth,
+    entries: Result<Entries, WidthFault>,
+    depth: Result<DepthFigures, DepthFault>,
     buffer: &mut [u8],
     at: usize,
 ) -> usize
@@ -122,16 +122,16 @@ fn put_sized_by(
     ensures { Put buffer.old at (sized_by sheet level lanes entries depth) buffer.new result × (result ≤ at + 7900) }
 {
     match entries {
-        EntriesFound::NoEntry => at,
-        EntriesFound::Entered(entered) => match depth {
-            Depth::NoCut(_) => at,
-            Depth::Cut(found) => put_sized(sheet, level, lanes, entered, found, buffer, at),
+        Err(WidthFault::NoWidthEntry) => at,
+        Ok(entered) => match depth {
+            Err(_) => at,
+            Ok(found) => put_sized(sheet, level, lanes, entered, found, buffer, at),
         },
     }
 }
 
 // The entries of a sheet's width.
-fn entries_for(sheet: Sheet) -> EntriesFound
+fn entries_for(sheet: Sheet) -> Result<Entries, WidthFault>
     ensures { result ≡ entries_for sheet }
 {
     let cross = sheet.cross;
@@ -235,16 +235,16 @@ fn section_by(
     sheet: Sheet,
     level: Level,
     lanes: Lanes,
-    entries: EntriesFound,
-    depth: Depth,
+    entries: Result<Entries, WidthFault>,
+    depth: Result<DepthFigures, DepthFault>,
 ) -> Section
     ensures { result ≡ section_by sheet level lanes entries depth }
 {
     match entries {
-        EntriesFound::NoEntry => no_section(),
-        EntriesFound::Entered(entered) => match depth {
-            Depth::NoCut(_) => no_section(),
-            Depth::Cut(found) => section_for(sheet, level, lanes, entered, found),
+        Err(WidthFault::NoWidthEntry) => no_section(),
+        Ok(entered) => match depth {
+            Err(_) => no_section(),
+            Ok(found) => section_for(sheet, level, lanes, entered, found),
         },
     }
 }
@@ -308,7 +308,7 @@ fn put_refused(
 fn put_answer(
     sheet: Sheet,
     steps: LevelSteps,
-    answer: Answer,
+    answer: Result<Figures, Reason>,
     buffer: &mut [u8],
     at: usize,
 ) -> usize
@@ -316,13 +316,13 @@ fn put_answer(
     ensures { Put buffer.old at (answer_parts sheet steps answer) buffer.new result × (result ≤ at + 17040) }
 {
     match answer {
-        Answer::Answered(figures) => put_answered(sheet, steps, figures, buffer, at),
-        Answer::Refused(reason) => put_refused(sheet, steps, reason, buffer, at),
+        Ok(figures) => put_answered(sheet, steps, figures, buffer, at),
+        Err(reason) => put_refused(sheet, steps, reason, buffer, at),
     }
 }
 
 // A sheet and what its design comes to.
-fn put_sheet(sheet: Sheet, steps: LevelSteps, answer: Answer, buffer: &mut [u8], at: usize) -> usize
+fn put_sheet(sheet: Sheet, steps: LevelSteps, answer: Result<Figures, Reason>, buffer: &mut [u8], at: usize) -> usize
     requires { at + 19940 ≤ length buffer.old }
     ensures { Put buffer.old at (sheet_parts sheet steps answer) buffer.new result × (result ≤ at + 19940) }
 {
@@ -332,10 +332,10 @@ fn put_sheet(sheet: Sheet, steps: LevelSteps, answer: Answer, buffer: &mut [u8],
 
 // What bytes are read as.
 fn put_body(
-    read: SheetRead,
+    read: Result<Sheet, ReadFault>,
     bytes: usize,
     steps: LevelSteps,
-    answer: Answer,
+    answer: Result<Figures, Reason>,
     buffer: &mut [u8],
     at: usize,
 ) -> usize
@@ -343,8 +343,8 @@ fn put_body(
     ensures { Put buffer.old at (body_by read bytes steps answer) buffer.new result × (result ≤ at + 19940) }
 {
     match read {
-        SheetRead::Good(sheet) => put_sheet(sheet, steps, answer, buffer, at),
-        SheetRead::NoSheet(fault) => refusals::put_no_sheet(fault, bytes, buffer, at),
+        Ok(sheet) => put_sheet(sheet, steps, answer, buffer, at),
+        Err(fault) => refusals::put_no_sheet(fault, bytes, buffer, at),
     }
 }
 

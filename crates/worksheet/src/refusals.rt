@@ -9,7 +9,7 @@ use datum::CrossCurrent;
 use depth::{DepthFault, Try, Worksheet};
 use gauge::{LevelFault, LevelSteps};
 use sheet::{Range, ReadFault};
-use speed::{Section, Speed, SpeedFault};
+use speed::{Section, SpeedFault};
 use width::WidthFault;
 
 // The row of a field, by how many stand before it.
@@ -262,12 +262,12 @@ pub fn put_no_depth(
 }
 
 // 17.
-fn put_too_fast(fastest: Speed, knots: u8, buffer: &mut [u8], at: usize) -> usize
+fn put_too_fast(fastest: Option<u64>, knots: u8, buffer: &mut [u8], at: usize) -> usize
     requires { at + 1300 ≤ length buffer.old }
     ensures { Put buffer.old at (too_fast_text fastest knots) buffer.new result × (result ≤ at + 1300) }
 {
     match fastest {
-        Speed::Parts(hundredths) => filling::put(
+        Some(hundredths) => filling::put(
             b"REFUSED 17: the ship is too fast\n  nine tenths of the critical speed: %0.%0%0 kn; the sheet has %0 kn\n",
             filling::four(
                 Figure::Count(hundredths / 100),
@@ -278,7 +278,7 @@ fn put_too_fast(fastest: Speed, knots: u8, buffer: &mut [u8], at: usize) -> usiz
             buffer,
             at,
         ),
-        Speed::Missing => at,
+        None => at,
     }
 }
 

@@ -5,7 +5,7 @@ ghost use Rattle.worksheet.specs.Routes.{greater_of, with_figures, route_head, n
 
 use crate::{Greatest, Readings, Totals, filling, framing};
 use blanks::Figure;
-use design::{Answer, Figures};
+use design::{Figures, Reason};
 
 // The lines of a page of the route.
 const LINES: u64 = 50;
@@ -73,13 +73,13 @@ fn put_answered(index: u64, figures: Figures, buffer: &mut [u8], at: usize) -> u
 }
 
 // The line of a stretch.
-fn put_by(index: u64, answer: Answer, buffer: &mut [u8], at: usize) -> usize
+fn put_by(index: u64, answer: Result<Figures, Reason>, buffer: &mut [u8], at: usize) -> usize
     requires { at + 450 ≤ length buffer.old }
     ensures { Put buffer.old at (line_by index answer) buffer.new result × (result ≤ at + 450) }
 {
     match answer {
-        Answer::Answered(figures) => put_answered(index, figures, buffer, at),
-        Answer::Refused(_) => filling::put(
+        Ok(figures) => put_answered(index, figures, buffer, at),
+        Err(_) => filling::put(
             b"%7  %4  refused\n",
             filling::two(Figure::Count(index), filling::small(design::code(answer))),
             buffer,
@@ -89,7 +89,7 @@ fn put_by(index: u64, answer: Answer, buffer: &mut [u8], at: usize) -> usize
 }
 
 // The same, behind the head of a new page where one begins.
-pub fn put_line(index: u64, answer: Answer, buffer: &mut [u8], at: usize) -> usize
+pub fn put_line(index: u64, answer: Result<Figures, Reason>, buffer: &mut [u8], at: usize) -> usize
     requires { at + 1851 ≤ length buffer.old }
     ensures { Put buffer.old at (stretch_text index answer) buffer.new result × (result ≤ at + 1851) }
 {

@@ -5,15 +5,15 @@ ghost use Rattle.worksheet.specs.Speeds.{fastest_text, parts_text, speed_part};
 
 use crate::filling;
 use blanks::Figure;
-use speed::{Section, Speed, SpeedParts};
+use speed::{Section, SpeedParts};
 
 // Nine tenths of the critical speed, where there is one.
-fn put_fastest(fastest: Speed, knots: u8, buffer: &mut [u8], at: usize) -> usize
+fn put_fastest(fastest: Option<u64>, knots: u8, buffer: &mut [u8], at: usize) -> usize
     requires { at + 800 ≤ length buffer.old }
     ensures { Put buffer.old at (fastest_text fastest knots) buffer.new result × (result ≤ at + 800) }
 {
     match fastest {
-        Speed::Parts(hundredths) => filling::put(
+        Some(hundredths) => filling::put(
             b"  nine tenths of it, rounded down: %0.%0%0 kn; the ship: %0 kn\n",
             filling::four(
                 Figure::Count(hundredths / 100),
@@ -24,7 +24,7 @@ fn put_fastest(fastest: Speed, knots: u8, buffer: &mut [u8], at: usize) -> usize
             buffer,
             at,
         ),
-        Speed::Missing => at,
+        None => at,
     }
 }
 

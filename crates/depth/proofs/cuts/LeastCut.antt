@@ -1,4 +1,5 @@
 -- The worksheet's answer is the depth as it is defined: the least cut that meets the definition, or that none does. Nothing else is.
+use Rattle.std.specs.Prelude.{Result, Ok, Err}
 use mathlib.Core.Path.{◌≡◌, refl, ap, subst}
 use mathlib.Core.Logic.{◌↔◌}
 use mathlib.Core.Bool.{false}
@@ -10,11 +11,8 @@ use Rattle.depth.specs.declared.Stretch.{Stretch}
 use Rattle.depth.specs.declared.Column.{Column}
 use Rattle.depth.specs.declared.Column.TheVariants.{A}
 use Rattle.depth.specs.declared.Try.{Try}
-use Rattle.depth.specs.declared.Finding.{Finding}
-use Rattle.depth.specs.declared.Finding.TheVariants.{Stays, Moves, Unusable}
+use Rattle.depth.specs.declared.Finding.TheVariants.{Stays, Moves}
 use Rattle.depth.specs.declared.DepthFigures.{DepthFigures}
-use Rattle.depth.specs.declared.Depth.{Depth}
-use Rattle.depth.specs.declared.Depth.TheVariants.{Cut, NoCut}
 use Rattle.depth.specs.Squat.{none, column_number, squat_reading}
 use Rattle.depth.specs.Depth.{z3, sailing, sailing_with, natural_of, own_column, Serves, Meets, Figures, AsDefined, Ranges, depth_number}
 use Rattle.depth.specs.Worksheet.{silt, figure, column_try, finding_of, is_move, moves_on, tries, last_try, answer_by, answer_of, work_depth, Forward, Followed, Counted}
@@ -26,10 +24,12 @@ use Rattle.depth.proofs.cuts.Settling.{silt_stays, figure_is, silt_is, figure_un
 use Rattle.depth.proofs.walks.Tries.{tries_count}
 use Rattle.depth.proofs.walks.Following.{walk_followed}
 use Rattle.depth.proofs.walks.Ending.{Tells, Ends, Walked, walk_right}
+use Rattle.depth.specs.declared.Finding.{Finding}
+use Rattle.depth.specs.declared.DepthFault.{DepthFault}
 
 module _ (q : Stretch) where
   -- what a try says that ends this stretch's worksheet
-  abbrev EndsIt : Try → Finding → Type 0
+  abbrev EndsIt : Try → Result Finding DepthFault → Type 0
   EndsIt = Ends (own_column q) (Serves q) (Meets q) (column_try q)
 
   -- a column's figure is the least cut it serves, where it serves any
@@ -48,17 +48,17 @@ module _ (q : Stretch) where
   pub served_some : (c : Column) (d : ℕ) → Serves q c d → 1 ≤ d
   served_some c d v = omega (arith, figure_some c, figure_under q c d v.deep)
 
-  line_tells : (c : Column) (f : Finding) → Says (column_try q c) f → Tells (own_column q) (Serves q) (Meets q) (column_try q) c (column_try q c) f
+  line_tells : (c : Column) (f : Result Finding DepthFault) → Says (column_try q c) f → Tells (own_column q) (Serves q) (Meets q) (column_try q) c (column_try q c) f
   unfolding column_try
-  line_tells c Stays s =
+  line_tells c (Ok Stays) s =
       let l = figure_least c s.0.entry s.0.silt in
       let e : own_column q (figure q c) ≡ c = same_column _ _ s.1 in (
         l,
         record { from = figure_some c; to = omega (arith, s.0.to); served = rw e l.holds },
         e,
       )
-  line_tells c Moves s = (figure_least c s.0.entry s.0.silt, refl, s.1)
-  line_tells c (Unusable fault) s = λ d v m.
+  line_tells c (Ok Moves) s = (figure_least c s.0.entry s.0.silt, refl, s.1)
+  line_tells c (Err fault) s = λ d v m.
       not_within (column_try q c) fault s (record {
         entry = v.entry;
         silt = omega (arith, silt_under q c d v.deep, v.silt);
@@ -78,30 +78,30 @@ module _ (q : Stretch) where
   pub tries_forward : Forward (tries q)
   tries_forward = walked.forward
 
-  answer_as_defined : (t : Try) (f : Finding) (columns : ℕ) → EndsIt t f → AsDefined q (answer_by f t columns)
+  answer_as_defined : (t : Try) (f : Result Finding DepthFault) (columns : ℕ) → EndsIt t f → AsDefined q (answer_by f t columns)
   unfolding column_try
-  answer_as_defined t Stays columns e = record { cut = e.0; sailing_depth = ap (λ (u : Try). u.sailing.0) e.1 }
-  answer_as_defined t Moves columns e = absurd e
-  answer_as_defined t (Unusable fault) columns e = e
+  answer_as_defined t (Ok Stays) columns e = record { cut = e.0; sailing_depth = ap (λ (u : Try). u.sailing.0) e.1 }
+  answer_as_defined t (Ok Moves) columns e = absurd e
+  answer_as_defined t (Err fault) columns e = e
 
   pub work_as_defined : AsDefined q (work_depth q)
   unfolding work_depth answer_of
   work_as_defined = answer_as_defined (last_try (tries q)) (finding_of (last_try (tries q))) (length (tries q)) walked.ends
 
-  answer_counted : (t : Try) (f : Finding) → Counted q (answer_by f t (length (tries q)))
-  answer_counted t Stays = refl
-  answer_counted t Moves = tt
-  answer_counted t (Unusable fault) = tt
+  answer_counted : (t : Try) (f : Result Finding DepthFault) → Counted q (answer_by f t (length (tries q)))
+  answer_counted t (Ok Stays) = refl
+  answer_counted t (Ok Moves) = tt
+  answer_counted t (Err fault) = tt
 
   pub work_counted : Counted q (work_depth q)
   unfolding work_depth answer_of
   work_counted = answer_counted (last_try (tries q)) (finding_of (last_try (tries q)))
 
   -- the worksheet ends because its last try does not move
-  no_move : (t : Try) (f : Finding) → EndsIt t f → is_move f ≡ false
-  no_move t Stays e = refl
-  no_move t Moves e = absurd e
-  no_move t (Unusable fault) e = refl
+  no_move : (t : Try) (f : Result Finding DepthFault) → EndsIt t f → is_move f ≡ false
+  no_move t (Ok Stays) e = refl
+  no_move t (Ok Moves) e = absurd e
+  no_move t (Err fault) e = refl
 
   pub last_stops : moves_on (last_try (tries q)) ≡ false
   unfolding moves_on
@@ -111,15 +111,15 @@ module _ (q : Stretch) where
   unfolding tries
   tries_followed = walk_followed (column_try q) 2 A last_stops
 
-  answered_when : (r : Depth) → AsDefined q r → (depth_number r ≡ 0) ↔ ((d : ℕ) × Meets q d)
-  answered_when (Cut f) a = ((λ e. (f.cut.0, a.cut.holds)), (λ m. refl))
-  answered_when (NoCut fault) a = ((λ e. absurd (omega (arith, fault_known fault))), (λ m. absurd (a m.0 m.1)))
+  answered_when : (r : Result DepthFigures DepthFault) → AsDefined q r → (depth_number r ≡ 0) ↔ ((d : ℕ) × Meets q d)
+  answered_when (Ok f) a = ((λ e. (f.cut.0, a.cut.holds)), (λ m. refl))
+  answered_when (Err fault) a = ((λ e. absurd (omega (arith, fault_known fault))), (λ m. absurd (a m.0 m.1)))
 
   pub zero_exactly : (depth_number (work_depth q) ≡ 0) ↔ ((d : ℕ) × Meets q d)
   zero_exactly = answered_when (work_depth q) work_as_defined
 
   -- what a caller may count on of the figures
-  module _ (f : DepthFigures) (is : work_depth q ≡ Cut f) where
+  module _ (f : DepthFigures) (is : work_depth q ≡ Ok f) where
     figures_defined : Figures q f
     figures_defined = subst (AsDefined q) is work_as_defined
 

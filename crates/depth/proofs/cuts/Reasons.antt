@@ -1,4 +1,5 @@
 -- The reason of a depth that is not given: the worksheet comes to one column that it cannot leave, and that column fails by one test.
+use Rattle.std.specs.Prelude.{Result, Ok, Err}
 use mathlib.Core.Path.{◌≡◌, refl, sym, ap, subst, ◌∙◌}
 use mathlib.Core.Bool.{Bool, true, false, true≢false}
 use mathlib.Core.List.{List, [], ◌∷◌}
@@ -16,10 +17,7 @@ use Rattle.depth.specs.declared.Column.TheVariants.{A}
 use Rattle.depth.specs.declared.Try.{Try}
 use Rattle.depth.specs.declared.DepthFault.{DepthFault}
 use Rattle.depth.specs.declared.DepthFault.TheVariants.{NoSquatEntry, SiltOver, CutOver}
-use Rattle.depth.specs.declared.Finding.{Finding}
-use Rattle.depth.specs.declared.Finding.TheVariants.{Stays, Moves, Unusable}
-use Rattle.depth.specs.declared.Depth.{Depth}
-use Rattle.depth.specs.declared.Depth.TheVariants.{Cut, NoCut}
+use Rattle.depth.specs.declared.Finding.TheVariants.{Stays, Moves}
 use Rattle.depth.specs.Squat.{column_number}
 use Rattle.depth.specs.Depth.{natural_of, sailing, Deep, Serves, own_column, Meets, AsDefined, depth_fault_number, depth_number, NoDepthNumber}
 use Rattle.depth.specs.Worksheet.{silt, figure, column_try, finding_of, is_move, moves_on, tries, last_try, answer_by, answer_of, work_depth, Followed, Counted}
@@ -29,10 +27,12 @@ use Rattle.depth.proofs.walks.Findings.{no_entry, too_much_silt, too_deep, moves
 use Rattle.depth.proofs.cuts.Easier.{serves_earlier}
 use Rattle.depth.proofs.cuts.Settling.{silt_stays, figure_is, line_figure}
 use Rattle.depth.proofs.cuts.LeastCut.{last_stops, tries_followed, work_as_defined, work_counted}
+use Rattle.depth.specs.declared.Finding.{Finding}
+use Rattle.depth.specs.declared.DepthFigures.{DepthFigures}
 
 -- a depth of these figures
-abbrev cut_of : ℕ → ℕ → ℕ → Depth
-cut_of cut sailing columns = Cut (record { cut = below cut; sailing = below sailing; columns = columns })
+abbrev cut_of : ℕ → ℕ → ℕ → Result DepthFigures DepthFault
+cut_of cut sailing columns = Ok (record { cut = below cut; sailing = below sailing; columns = columns })
 
 module _ (q : Stretch) where
   -- a column as its line has it
@@ -47,7 +47,7 @@ module _ (q : Stretch) where
       let f = within_figure c p.1 in
       (p.0, (figure q c, f, omega (arith, p.1, (line_figure q c (figure q c) f).1), p.2))
 
-  fails_found : (c : Column) (fault : DepthFault) → Fails q c fault → Unusable fault ≡ finding_of (column_try q c)
+  fails_found : (c : Column) (fault : DepthFault) → Fails q c fault → Err fault ≡ finding_of (column_try q c)
   unfolding column_try
   fails_found c NoSquatEntry p = no_entry _ p
   fails_found c SiltOver p = too_much_silt _ p.0 (over (leb (silt q c) 120) refl)
@@ -64,10 +64,10 @@ module _ (q : Stretch) where
   unfolding moves_on
   moving t e = go (finding_of t) (finding_says t) e
     where
-      go : (f : Finding) → Says t f → is_move f ≡ true → Within t × (column_number t.falls_in ≡ column_number t.column → ⊥)
-      go Stays s e = absurd (true≢false (sym e))
-      go Moves s e = s
-      go (Unusable fault) s e = absurd (true≢false (sym e))
+      go : (f : Result Finding DepthFault) → Says t f → is_move f ≡ true → Within t × (column_number t.falls_in ≡ column_number t.column → ⊥)
+      go (Ok Stays) s e = absurd (true≢false (sym e))
+      go (Ok Moves) s e = s
+      go (Err fault) s e = absurd (true≢false (sym e))
 
   moves_usable : (c : Column) → moves_on (column_try q c) ≡ true → Usable q c (figure q c) × (own_column q (figure q c) ≢ c)
   unfolding column_try
@@ -151,18 +151,18 @@ module _ (q : Stretch) where
   the_last : Last A (last_try (tries q))
   the_last = comes_to A (tries q) (tries_followed q)
 
-  last_found : (fault : DepthFault) → FirstUnusable q fault → finding_of (last_try (tries q)) ≡ Unusable fault
+  last_found : (fault : DepthFault) → FirstUnusable q fault → finding_of (last_try (tries q)) ≡ Err fault
   last_found fault u =
       let stops = still_stops the_last.column (sym (ap moves_on the_last.line) ∙ last_stops q) in
       let same = one_end A the_last.column u.column the_last.comes u.reached stops (fails_stops u.column fault u.fails) in
       ap finding_of the_last.line ∙ ap (λ (c : Column). finding_of (column_try q c)) same ∙ sym (fails_found u.column fault u.fails)
 
   -- the reason of the last try
-  answer_reasoned : (f : Finding) → finding_of (last_try (tries q)) ≡ f → Reasoned q (answer_by f (last_try (tries q)) (length (tries q)))
+  answer_reasoned : (f : Result Finding DepthFault) → finding_of (last_try (tries q)) ≡ f → Reasoned q (answer_by f (last_try (tries q)) (length (tries q)))
   unfolding moves_on
-  answer_reasoned Stays e = tt
-  answer_reasoned Moves e = absurd (true≢false (sym (ap is_move e) ∙ last_stops q))
-  answer_reasoned (Unusable fault) e =
+  answer_reasoned (Ok Stays) e = tt
+  answer_reasoned (Ok Moves) e = absurd (true≢false (sym (ap is_move e) ∙ last_stops q))
+  answer_reasoned (Err fault) e =
       record {
         column = the_last.column;
         reached = the_last.comes;
@@ -173,27 +173,27 @@ module _ (q : Stretch) where
   unfolding work_depth answer_of
   work_reasoned = answer_reasoned (finding_of (last_try (tries q))) refl
 
-  pub reason_exactly : (fault : DepthFault) → (work_depth q ≡ NoCut fault) ↔ FirstUnusable q fault
+  pub reason_exactly : (fault : DepthFault) → (work_depth q ≡ Err fault) ↔ FirstUnusable q fault
   unfolding work_depth answer_of
   reason_exactly fault = (
     (λ e. subst (Reasoned q) e work_reasoned),
-    (λ u. ap (λ (f : Finding). answer_by f (last_try (tries q)) (length (tries q))) (last_found fault u)),
+    (λ u. ap (λ (f : Result Finding DepthFault). answer_by f (last_try (tries q)) (length (tries q))) (last_found fault u)),
   )
 
   -- one depth is as defined, with its count and its reason
-  one_depth : (r s : Depth) → AsDefined q r → AsDefined q s → Counted q r → Counted q s → Reasoned q r → Reasoned q s → r ≡ s
-  one_depth (Cut f) (Cut g) a b m n o p =
+  one_depth : (r s : Result DepthFigures DepthFault) → AsDefined q r → AsDefined q s → Counted q r → Counted q s → Reasoned q r → Reasoned q s → r ≡ s
+  one_depth (Ok f) (Ok g) a b m n o p =
       let e : f.cut.0 ≡ g.cut.0 = least_only (Meets q) f.cut.0 g.cut.0 a.cut b.cut in
       let k : f.sailing.0 ≡ g.sailing.0 = a.sailing_depth ∙ ap (λ (d : ℕ). sailing q (own_column q d)) e ∙ sym b.sailing_depth in
       let l : f.columns ≡ g.columns = m ∙ sym n in
       ap (λ (d : ℕ). cut_of d f.sailing.0 f.columns) e
       ∙ ap (λ (s : ℕ). cut_of g.cut.0 s f.columns) k
       ∙ ap (λ (n : ℕ). cut_of g.cut.0 g.sailing.0 n) l
-  one_depth (Cut f) (NoCut fault) a b m n o p = absurd (b f.cut.0 a.cut.holds)
-  one_depth (NoCut fault) (Cut g) a b m n o p = absurd (a g.cut.0 b.cut.holds)
-  one_depth (NoCut fault) (NoCut fault') a b m n o p = sym ((reason_exactly fault).1 o) ∙ (reason_exactly fault').1 p
+  one_depth (Ok f) (Err fault) a b m n o p = absurd (b f.cut.0 a.cut.holds)
+  one_depth (Err fault) (Ok g) a b m n o p = absurd (a g.cut.0 b.cut.holds)
+  one_depth (Err fault) (Err fault') a b m n o p = sym ((reason_exactly fault).1 o) ∙ (reason_exactly fault').1 p
 
-  pub no_other : (r : Depth) → AsDefined q r → Counted q r → Reasoned q r → r ≡ work_depth q
+  pub no_other : (r : Result DepthFigures DepthFault) → AsDefined q r → Counted q r → Reasoned q r → r ≡ work_depth q
   no_other r a n o = one_depth r (work_depth q) a (work_as_defined q) n (work_counted q) o work_reasoned
 
   -- "no depth" exactly when no cut meets the definition, and which of the three by the reason
@@ -207,9 +207,9 @@ module _ (q : Stretch) where
   none_of_three (inr (inl e)) = omega arith
   none_of_three (inr (inr e)) = omega arith
 
-  no_depth_when : (r : Depth) → AsDefined q r → NoDepthNumber (depth_number r) ↔ ((d : ℕ) → ¬ Meets q d)
-  no_depth_when (Cut f) a = ((λ t. absurd (none_of_three t)), (λ none. absurd (none f.cut.0 a.cut.holds)))
-  no_depth_when (NoCut fault) a = ((λ t. a), (λ none. three fault))
+  no_depth_when : (r : Result DepthFigures DepthFault) → AsDefined q r → NoDepthNumber (depth_number r) ↔ ((d : ℕ) → ¬ Meets q d)
+  no_depth_when (Ok f) a = ((λ t. absurd (none_of_three t)), (λ none. absurd (none f.cut.0 a.cut.holds)))
+  no_depth_when (Err fault) a = ((λ t. a), (λ none. three fault))
 
   pub no_depth_exactly : NoDepthNumber (depth_number (work_depth q)) ↔ ((d : ℕ) → ¬ Meets q d)
   no_depth_exactly = no_depth_when (work_depth q) (work_as_defined q)
@@ -225,11 +225,11 @@ module _ (q : Stretch) where
   one_number CutOver SiltOver e = absurd (omega arith)
   one_number CutOver CutOver e = refl
 
-  numbered : (fault : DepthFault) (r : Depth) → depth_number r ≡ depth_fault_number fault → r ≡ NoCut fault
-  numbered NoSquatEntry (Cut f) e = absurd (omega arith)
-  numbered SiltOver (Cut f) e = absurd (omega arith)
-  numbered CutOver (Cut f) e = absurd (omega arith)
-  numbered fault (NoCut other) e = ap NoCut (one_number other fault e)
+  numbered : (fault : DepthFault) (r : Result DepthFigures DepthFault) → depth_number r ≡ depth_fault_number fault → r ≡ Err fault
+  numbered NoSquatEntry (Ok f) e = absurd (omega arith)
+  numbered SiltOver (Ok f) e = absurd (omega arith)
+  numbered CutOver (Ok f) e = absurd (omega arith)
+  numbered fault (Err other) e = ap Err (one_number other fault e)
 
   pub number_exactly : (fault : DepthFault) → (depth_number (work_depth q) ≡ depth_fault_number fault) ↔ FirstUnusable q fault
   number_exactly fault = (
@@ -241,5 +241,5 @@ module _ (q : Stretch) where
   no_meeting fault u = subst (AsDefined q) ((reason_exactly fault).1 u) (work_as_defined q)
 
   -- the worksheet's last try shows it
-  pub last_shows : (fault : DepthFault) → work_depth q ≡ NoCut fault → finding_of (last_try (tries q)) ≡ Unusable fault
+  pub last_shows : (fault : DepthFault) → work_depth q ≡ Err fault → finding_of (last_try (tries q)) ≡ Err fault
   last_shows fault e = last_found fault ((reason_exactly fault).0 e)

@@ -1,5 +1,6 @@
 -- The worksheet ends at the least number that meets a rule, for any rule `Fit column number` that only gets harder from column to column and any
 -- line that tells the least number that fits its column: each number that is good lies at the column tried or past it.
+use Rattle.std.specs.Prelude.{Result, Ok, Err}
 use mathlib.Core.Path.{◌≡◌, refl, sym, subst}
 use mathlib.Core.Bool.{Bool, true, false}
 use mathlib.Core.List.{List, [], ◌∷◌}
@@ -11,25 +12,26 @@ use Rattle.laws.specs.Extremes.{Least}
 use Rattle.depth.specs.declared.Column.{Column}
 use Rattle.depth.specs.declared.Column.TheVariants.{A}
 use Rattle.depth.specs.declared.Try.{Try}
-use Rattle.depth.specs.declared.Finding.{Finding}
-use Rattle.depth.specs.declared.Finding.TheVariants.{Stays, Moves, Unusable}
+use Rattle.depth.specs.declared.Finding.TheVariants.{Stays, Moves}
 use Rattle.depth.specs.Squat.{column_number}
 use Rattle.depth.specs.Worksheet.{finding_of, is_move, moves_on, walk, last_try, Forward}
 use Rattle.depth.proofs.squat.Columns.{column_most}
 use Rattle.depth.proofs.walks.Tries.{last_later, forward_later}
+use Rattle.depth.specs.declared.Finding.{Finding}
+use Rattle.depth.specs.declared.DepthFault.{DepthFault}
 
 module _ (own : ℕ → Column) (Fit : Column → ℕ → Type 0) (Good : ℕ → Type 0) (line : Column → Try) where
   -- what a column's line tells, by its finding
-  abbrev pub Tells : Column → Try → Finding → Type 0
-  Tells c t Stays = Least (Fit c) t.figure.0 × Good t.figure.0 × (own t.figure.0 ≡ c)
-  Tells c t Moves = Least (Fit c) t.figure.0 × (t.falls_in ≡ own t.figure.0) × (column_number t.falls_in ≡ column_number c → ⊥)
-  Tells c t (Unusable fault) = (d : ℕ) → Fit c d → Good d → ⊥
+  abbrev pub Tells : Column → Try → Result Finding DepthFault → Type 0
+  Tells c t (Ok Stays) = Least (Fit c) t.figure.0 × Good t.figure.0 × (own t.figure.0 ≡ c)
+  Tells c t (Ok Moves) = Least (Fit c) t.figure.0 × (t.falls_in ≡ own t.figure.0) × (column_number t.falls_in ≡ column_number c → ⊥)
+  Tells c t (Err fault) = (d : ℕ) → Fit c d → Good d → ⊥
 
   -- what the last try says, by its finding: it has the least good number, of its own column; or there is none; and it never moves
-  abbrev pub Ends : Try → Finding → Type 0
-  Ends t Stays = Least Good t.figure.0 × (t ≡ line (own t.figure.0))
-  Ends t Moves = ⊥
-  Ends t (Unusable fault) = (d : ℕ) → Good d → ⊥
+  abbrev pub Ends : Try → Result Finding DepthFault → Type 0
+  Ends t (Ok Stays) = Least Good t.figure.0 × (t ≡ line (own t.figure.0))
+  Ends t (Ok Moves) = ⊥
+  Ends t (Err fault) = (d : ℕ) → Good d → ⊥
 
   -- the tries of a walk: they go forward, and the last says what it must
   pub record Walked (l : List Try) : Type 0 where
@@ -57,7 +59,7 @@ module _ (own : ℕ → Column) (Fit : Column → ℕ → Type 0) (Good : ℕ �
     }
 
     -- where a column moves, the worksheet begins again in a later one
-    moved : (c : Column) → Begun c → Tells c (line c) Moves → Begun (line c).falls_in × (column_number c < column_number (line c).falls_in)
+    moved : (c : Column) → Begun c → Tells c (line c) (Ok Moves) → Begun (line c).falls_in × (column_number c < column_number (line c).falls_in)
     moved c b t =
         let h : column_number c ≤ column_number (own (line c).figure.0) = b.fit_past _ t.0.holds in
         let e : column_number (line c).falls_in ≡ column_number (own (line c).figure.0) = rw t.1 in
@@ -65,19 +67,19 @@ module _ (own : ℕ → Column) (Fit : Column → ℕ → Type 0) (Good : ℕ �
         (subst Begun (sym t.1) (next c _ b t.0), omega arith)
 
     -- a column that ends the worksheet
-    stopped : (c : Column) → Begun c → (f : Finding) → is_move f ≡ false → Tells c (line c) f → Ends (line c) f
-    stopped c b Stays e t = (record { holds = t.1; least = λ d g. under c _ d b t.0 g }, rw t.2)
-    stopped c b Moves e t = never cc
-    stopped c b (Unusable fault) e t = λ d g. t d (down c (own d) d (b.good_past d g) (fits d g)) g
+    stopped : (c : Column) → Begun c → (f : Result Finding DepthFault) → is_move f ≡ false → Tells c (line c) f → Ends (line c) f
+    stopped c b (Ok Stays) e t = (record { holds = t.1; least = λ d g. under c _ d b t.0 g }, rw t.2)
+    stopped c b (Ok Moves) e t = never cc
+    stopped c b (Err fault) e t = λ d g. t d (down c (own d) d (b.good_past d g) (fits d g)) g
 
     ended : (c : Column) → Begun c → moves_on (line c) ≡ false → Ends (line c) (finding_of (line c))
     unfolding moves_on
     ended c b e = stopped c b (finding_of (line c)) e (tells c)
 
-    moving : (c : Column) (f : Finding) → is_move f ≡ true → Tells c (line c) f → Tells c (line c) Moves
-    moving c Stays e t = never cc
-    moving c Moves e t = t
-    moving c (Unusable fault) e t = never cc
+    moving : (c : Column) (f : Result Finding DepthFault) → is_move f ≡ true → Tells c (line c) f → Tells c (line c) (Ok Moves)
+    moving c (Ok Stays) e t = never cc
+    moving c (Ok Moves) e t = t
+    moving c (Err fault) e t = never cc
 
     goes_on : (c : Column) → Begun c → moves_on (line c) ≡ true → Begun (line c).falls_in × (column_number c < column_number (line c).falls_in)
     unfolding moves_on

@@ -1,4 +1,5 @@
 -- The worksheet as data: the code's one, two or three tries are the definition's, and the line that the count reaches is the last try.
+use Rattle.std.specs.Prelude.{Ok}
 use mathlib.Core.Path.{◌≡◌, refl, sym, ap, ap₂, ◌∙◌}
 use mathlib.Core.Bool.{true, false}
 use mathlib.Core.List.{List, [], ◌∷◌, ◌++◌}
@@ -10,7 +11,6 @@ use Rattle.depth.specs.declared.Column.TheVariants.{A}
 use Rattle.depth.specs.declared.Try.{Try}
 use Rattle.depth.specs.declared.Worksheet.{Worksheet}
 use Rattle.depth.specs.declared.DepthFigures.{DepthFigures}
-use Rattle.depth.specs.declared.Depth.TheVariants.{Cut}
 use Rattle.depth.specs.Worksheet.{column_try, moves_on, tries, blank_try, worksheet_of, last_try, answer_of, work_depth, Counted}
 use Rattle.depth.proofs.walks.Tries.{walk_stops, walk_goes_on, walk_last, tries_count}
 
@@ -89,5 +89,5 @@ module _ (q : Stretch) where
   work_of_last = sym (ap₂ answer_of last_line_is (count_is (worksheet_of q) refl))
 
   -- the columns of a cut are the worksheet's count
-  pub columns_are : (f : DepthFigures) → Counted q (Cut f) → f.columns ≡ (worksheet_of q).count
+  pub columns_are : (f : DepthFigures) → Counted q (Ok f) → f.columns ≡ (worksheet_of q).count
   columns_are f counted = counted ∙ sym (count_is (worksheet_of q) refl)

@@ -1,4 +1,5 @@
 -- What a try comes to: the ways out of the code's tests, and what each finding says.
+use Rattle.std.specs.Prelude.{Result, Ok, Err}
 use mathlib.Core.Path.{◌≡◌, refl, sym, ap, subst}
 use mathlib.Core.Bool.{Bool, true, false}
 use Prim.Native.Nat.{ℕ, ◌≤◌, ◌<◌}
@@ -9,32 +10,32 @@ use Rattle.laws.specs.Choice.{ifᵇ◌then◌else◌}
 use Rattle.depth.specs.declared.Try.{Try}
 use Rattle.depth.specs.declared.DepthFault.{DepthFault}
 use Rattle.depth.specs.declared.DepthFault.TheVariants.{NoSquatEntry, SiltOver, CutOver}
-use Rattle.depth.specs.declared.Finding.{Finding}
-use Rattle.depth.specs.declared.Finding.TheVariants.{Stays, Moves, Unusable}
+use Rattle.depth.specs.declared.Finding.TheVariants.{Stays, Moves}
 use Rattle.depth.specs.Squat.{none, column_number}
 use Rattle.depth.specs.Depth.{depth_fault_number}
 use Rattle.depth.specs.Worksheet.{finding_of, is_move, moves_on, answer_by, answer_of}
+use Rattle.depth.specs.declared.Finding.{Finding}
 
 module _ (t : Try) where
-  pub no_entry : none ≤ t.squat → Unusable NoSquatEntry ≡ finding_of t
+  pub no_entry : none ≤ t.squat → Err NoSquatEntry ≡ finding_of t
   unfolding finding_of
   no_entry h = simp (le-leb _ _ h)
 
-  pub too_much_silt : t.squat < none → 120 < t.silt → Unusable SiltOver ≡ finding_of t
+  pub too_much_silt : t.squat < none → 120 < t.silt → Err SiltOver ≡ finding_of t
   unfolding finding_of
   too_much_silt e h = simp (lt-leb _ _ e, lt-ltb _ _ h)
 
-  pub too_deep : t.squat < none → t.silt ≤ 120 → 3000 < t.figure.0 → Unusable CutOver ≡ finding_of t
+  pub too_deep : t.squat < none → t.silt ≤ 120 → 3000 < t.figure.0 → Err CutOver ≡ finding_of t
   unfolding finding_of
   too_deep e s h = simp (lt-leb _ _ e, le-ltb _ _ s, lt-ltb _ _ h)
 
   pub stays : t.squat < none → t.silt ≤ 120 → t.figure.0 ≤ 3000 → column_number t.falls_in ≡ column_number t.column
-      → Stays ≡ finding_of t
+      → (Ok Stays) ≡ finding_of t
   unfolding finding_of
   stays e s h k = simp (lt-leb _ _ e, le-ltb _ _ s, le-ltb _ _ h, eq-eqb _ _ k)
 
   pub moves : t.squat < none → t.silt ≤ 120 → t.figure.0 ≤ 3000
-      → (column_number t.falls_in ≡ column_number t.column → ⊥) → Moves ≡ finding_of t
+      → (column_number t.falls_in ≡ column_number t.column → ⊥) → (Ok Moves) ≡ finding_of t
   unfolding finding_of
   moves e s h k = simp (lt-leb _ _ e, le-ltb _ _ s, le-ltb _ _ h, ne_eqb _ _ k)
 
@@ -62,10 +63,10 @@ fault_known SiltOver = omega arith
 fault_known CutOver = omega arith
 
 -- what a finding says of its try
-abbrev pub Says : Try → Finding → Type 0
-Says t Stays = Within t × (column_number t.falls_in ≡ column_number t.column)
-Says t Moves = Within t × (column_number t.falls_in ≡ column_number t.column → ⊥)
-Says t (Unusable fault) = Past t fault
+abbrev pub Says : Try → Result Finding DepthFault → Type 0
+Says t (Ok Stays) = Within t × (column_number t.falls_in ≡ column_number t.column)
+Says t (Ok Moves) = Within t × (column_number t.falls_in ≡ column_number t.column → ⊥)
+Says t (Err fault) = Past t fault
 
 pub finding_says : (t : Try) → Says t (finding_of t)
 unfolding finding_of
@@ -75,7 +76,7 @@ finding_says t =
   where
     go : (a b d e : Bool) → leb none t.squat ≡ a → ltb 120 t.silt ≡ b → ltb 3000 t.figure.0 ≡ d
         → eqb (column_number t.falls_in) (column_number t.column) ≡ e
-        → Says t (ifᵇ a then Unusable NoSquatEntry else (ifᵇ b then Unusable SiltOver else (ifᵇ d then Unusable CutOver else (ifᵇ e then Stays else Moves))))
+        → Says t (ifᵇ a then Err NoSquatEntry else (ifᵇ b then Err SiltOver else (ifᵇ d then Err CutOver else (ifᵇ e then (Ok Stays) else (Ok Moves)))))
     go true b d e ea eb ed ee = leb-true _ _ ea
     go false true d e ea eb ed ee = (leb-false _ _ ea, ltb-true _ _ eb)
     go false false true e ea eb ed ee = (leb-false _ _ ea, ltb-false _ _ eb, ltb-true _ _ ed)
@@ -84,15 +85,15 @@ finding_says t =
     go false false false false ea eb ed ee =
         (record { entry = leb-false _ _ ea; silt = ltb-false _ _ eb; to = ltb-false _ _ ed }, eqb-false _ _ ee)
 
-pub stays_within : (t : Try) → finding_of t ≡ Stays → Within t
+pub stays_within : (t : Try) → finding_of t ≡ (Ok Stays) → Within t
 stays_within t e = (subst (Says t) e (finding_says t)).0
 
 -- whether it moves, and what it answers, by its finding
-module _ (t : Try) (f : Finding) (is : finding_of t ≡ f) where
+module _ (t : Try) (f : Result Finding DepthFault) (is : finding_of t ≡ f) where
   pub moves_by : is_move f ≡ moves_on t
   unfolding moves_on
   moves_by = ap is_move (sym is)
 
   pub answer_by_lem : (columns : ℕ) → answer_by f t columns ≡ answer_of t columns
   unfolding answer_of
-  answer_by_lem columns = ap (λ (g : Finding). answer_by g t columns) (sym is)
+  answer_by_lem columns = ap (λ (g : Result Finding DepthFault). answer_by g t columns) (sym is)

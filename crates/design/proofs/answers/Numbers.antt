@@ -1,4 +1,5 @@
 -- The numbers of an answer begin with the code and the field, which name one reason; the figures after them are 0 when refused. By cases of the reason.
+use Rattle.std.specs.Prelude.{Result, Ok, Err}
 use mathlib.Core.Path.{◌≡◌, refl, sym, ap, ap₂, ◌∙◌}
 use mathlib.Core.Bool.{Bool, true, ◌&&◌}
 use mathlib.Core.List.{List, [], ◌∷◌}
@@ -22,18 +23,16 @@ use Rattle.design.specs.Refusals.{reason_number, reason_field, rows}
 use Rattle.design.specs.declared.Figures.{Figures}
 use Rattle.design.specs.declared.Reason.{Reason}
 use Rattle.design.specs.declared.Reason.TheVariants.{NoSheet, NoShip, NoLevel, NoWidth, NoDepth, NoSpeed}
-use Rattle.design.specs.declared.Answer.{Answer}
-use Rattle.design.specs.declared.Answer.TheVariants.{Answered, Refused}
 
-pub code_and_field : (a : Answer) → take 2 (numbers_of a) ≡ pos (code_of a) ∷ pos (field_of a) ∷ []
+pub code_and_field : (a : Result Figures Reason) → take 2 (numbers_of a) ≡ pos (code_of a) ∷ pos (field_of a) ∷ []
 unfolding numbers_of
-code_and_field (Answered f) = refl
-code_and_field (Refused r) = refl
+code_and_field (Ok f) = refl
+code_and_field (Err r) = refl
 
-pub counted : (a : Answer) → length (numbers_of a) ≡ number_count
+pub counted : (a : Result Figures Reason) → length (numbers_of a) ≡ number_count
 unfolding numbers_of
-counted (Answered f) = refl
-counted (Refused r) = refl
+counted (Ok f) = refl
+counted (Err r) = refl
 
 -- each reason's number is that of a row, whatever the bytes and the table
 reason_present : (bytes table : List ℕ) (r : Reason) → T (present (reason_number r) (rows bytes table))
@@ -68,22 +67,22 @@ unfolding rows
 reason_to r = listed_to 255 (rows [] []) (reason_number r) tt (present_listed (reason_number r) (rows [] []) (reason_present [] [] r))
 
 module _ (bytes table : List ℕ) where
-  pub code_listed : (a : Answer) → (code_of a ≡ 0) ⊎ Listed (rows bytes table) (code_of a)
-  code_listed (Answered f) = inl refl
-  code_listed (Refused r) = inr (present_listed (reason_number r) (rows bytes table) (reason_present bytes table r))
+  pub code_listed : (a : Result Figures Reason) → (code_of a ≡ 0) ⊎ Listed (rows bytes table) (code_of a)
+  code_listed (Ok f) = inl refl
+  code_listed (Err r) = inr (present_listed (reason_number r) (rows bytes table) (reason_present bytes table r))
 
-  pub code_never : (a : Answer) (number : ℕ) → 1 ≤ number → T (absent number (rows bytes table)) → code_of a ≢ number
-  code_never (Answered f) number some none e = omega arith
-  code_never (Refused r) number some none e = present_other (reason_number r) number (rows bytes table) (reason_present bytes table r) none e
+  pub code_never : (a : Result Figures Reason) (number : ℕ) → 1 ≤ number → T (absent number (rows bytes table)) → code_of a ≢ number
+  code_never (Ok f) number some none e = omega arith
+  code_never (Err r) number some none e = present_other (reason_number r) number (rows bytes table) (reason_present bytes table r) none e
 
 -- the code is 0 exactly when the design is answered
 pub refused_some : (r : Reason) → reason_number r ≢ 0
 unfolding rows
 refused_some r e = present_other (reason_number r) 0 (rows [] []) (reason_present [] [] r) tt e
 
-pub zero_exactly : (a : Answer) → (code_of a ≡ 0) ↔ ((f : Figures) × (a ≡ Answered f))
-zero_exactly (Answered f) = ((λ e. (f, refl)), (λ e. refl))
-zero_exactly (Refused r) = ((λ e. absurd (refused_some r e)), (λ answered. ap code_of answered.1))
+pub zero_exactly : (a : Result Figures Reason) → (code_of a ≡ 0) ↔ ((f : Figures) × (a ≡ Ok f))
+zero_exactly (Ok f) = ((λ e. (f, refl)), (λ e. refl))
+zero_exactly (Err r) = ((λ e. absurd (refused_some r e)), (λ answered. ap code_of answered.1))
 
 -- the field is 0 unless the number is 3
 pub field_zero : (r : Reason) → reason_number r ≢ 3 → reason_field r ≡ 0
@@ -96,9 +95,9 @@ field_zero (NoWidth fault) n = refl
 field_zero (NoDepth fault) n = refl
 field_zero (NoSpeed fault) n = refl
 
-pub field_unless : (a : Answer) → code_of a ≢ 3 → field_of a ≡ 0
-field_unless (Answered f) n = refl
-field_unless (Refused r) n = field_zero r n
+pub field_unless : (a : Result Figures Reason) → code_of a ≢ 3 → field_of a ≡ 0
+field_unless (Ok f) n = refl
+field_unless (Err r) n = field_zero r n
 
 -- the reason of a number and a field
 abbrev reason_from : ℕ → ℕ → Reason

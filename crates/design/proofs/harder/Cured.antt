@@ -1,5 +1,6 @@
 -- What a greater figure can cure, by pairs that are computed: a longer ship 18, so demand 3 asks of the shorter that it passes it; a wider one 16 and
 -- 17, so demand 3 leaves both out.
+use Rattle.std.specs.Prelude.{Result, Ok, Err}
 use mathlib.Core.Path.{◌≡◌, refl, sym, ap, ◌∙◌}
 use mathlib.Core.List.{List, []}
 use mathlib.Core.Logic.{inl, inr}
@@ -23,8 +24,6 @@ use Rattle.design.specs.Refusals.{reason_number, sheet_in}
 use Rattle.design.specs.Starred.{writing}
 use Rattle.design.specs.declared.Figures.{Figures}
 use Rattle.design.specs.declared.Reason.{Reason}
-use Rattle.design.specs.declared.Answer.{Answer}
-use Rattle.design.specs.declared.Answer.TheVariants.{Answered, Refused}
 use Rattle.design.proofs.answers.Numbers.{refused_some}
 use Rattle.design.proofs.harder.Pairs.{else_equal, number_at, code_is}
 use Rattle.design.proofs.Starred.{starred}
@@ -37,10 +36,10 @@ passes sheet t under = omega (arith, leb→le (3 * (sheet_in sheet).beam) (sheet
 
 -- a refusal that is not left out, and then an answer, is easier
 module _ (LeftOut : Reason → Type 0) (figure : Figures → ℤ) (number : ℕ) (some : 1 ≤ number) (kept : (r : Reason) → reason_number r ≡ number → ¬ LeftOut r) where
-  easier : (a b : Answer) → code_of a ≡ number → code_of b ≡ 0 → ¬ NoEasier LeftOut figure a b
-  easier (Answered f) (Answered g) refusal answer (no_less le) = omega arith
-  easier a (Refused r) refusal answer refused = refused_some r answer
-  easier (Refused r) (Answered g) refusal answer (cured left) = kept r refusal left
+  easier : (a b : Result Figures Reason) → code_of a ≡ number → code_of b ≡ 0 → ¬ NoEasier LeftOut figure a b
+  easier (Ok f) (Ok g) refusal answer (no_less le) = omega arith
+  easier a (Err r) refusal answer refused = refused_some r answer
+  easier (Err r) (Ok g) refusal answer (cured left) = kept r refusal left
 
 -- S with a beam of 40 m: refused by 18 at a length of 119.99 m, answered at 120 m
 abbrev shorter : List ℕ

@@ -1,4 +1,5 @@
 -- By how much a greater draft, a greater wave allowance and a second lane deepen the cut: each is an instance of the one comparison of two cuts.
+use Rattle.std.specs.Prelude.{Result, Ok, Err}
 use mathlib.Core.Path.{◌≡◌, refl, ap, ◌∙◌}
 use mathlib.Core.Bool.{true}
 use mathlib.Core.List.{List}
@@ -20,23 +21,22 @@ use Rattle.design.specs.Answers.{FiguresAre}
 use Rattle.design.specs.Harder.{cut, figure_in, Raised, BySpeed, NoEasier, no_less, refused, cured}
 use Rattle.design.specs.Growth.{Deeper, increase, CentimetreForCentimetre, loads, NamesTwo}
 use Rattle.design.specs.declared.Figures.{Figures}
-use Rattle.design.specs.declared.Answer.{Answer}
-use Rattle.design.specs.declared.Answer.TheVariants.{Answered, Refused}
 use Rattle.design.proofs.rows.Exactly.{Ended, design_ended}
 use Rattle.design.proofs.harder.Compared.{weighs, hardens, compared}
 use Rattle.design.proofs.harder.Rows.{cut_grows}
 use Rattle.design.proofs.harder.Never.{deepens_where}
+use Rattle.design.specs.declared.Reason.{Reason}
 
 -- what two answers say of each other, where both are answered and the cuts are known to be that far apart
 both_answered : (easy hard table : List ℕ) (cm : ℕ)
     → ((f g : Figures) → FiguresAre (sheet_in easy) (level_in (sheet_in easy) table) f → FiguresAre (sheet_in hard) (level_in (sheet_in hard) table) g → f.cut.0 + cm ≤ g.cut.0)
-    → (a b : Answer) → Ended easy table a → Ended hard table b → Deeper cm a b
-both_answered easy hard table cm grows (Answered f) (Answered g) (inl t) (inl u) = grows f g t.1 u.1
-both_answered easy hard table cm grows (Answered f) (Answered g) (inr t) u = absurd t.1
-both_answered easy hard table cm grows (Answered f) (Answered g) (inl t) (inr u) = absurd u.1
-both_answered easy hard table cm grows (Answered f) (Refused r) t u = tt
-both_answered easy hard table cm grows (Refused r) (Answered g) t u = tt
-both_answered easy hard table cm grows (Refused r) (Refused r') t u = tt
+    → (a b : Result Figures Reason) → Ended easy table a → Ended hard table b → Deeper cm a b
+both_answered easy hard table cm grows (Ok f) (Ok g) (inl t) (inl u) = grows f g t.1 u.1
+both_answered easy hard table cm grows (Ok f) (Ok g) (inr t) u = absurd t.1
+both_answered easy hard table cm grows (Ok f) (Ok g) (inl t) (inr u) = absurd u.1
+both_answered easy hard table cm grows (Ok f) (Err r) t u = tt
+both_answered easy hard table cm grows (Err r) (Ok g) t u = tt
+both_answered easy hard table cm grows (Err r) (Err r') t u = tt
 
 -- draft and wave allowance: each is a summand of the need, and neither is of the lane rule
 module _ (k : ℕ) (is : weighs k ≡ true) (too : hardens k ≡ true)
@@ -65,11 +65,11 @@ pub each_centimetre : Each CentimetreForCentimetre loads
 each_centimetre = deepens 2 refl refl (λ easy hard draft wave. omega arith) & deepens 8 refl refl (λ easy hard draft wave. omega arith) & tt
 
 -- what is no easier is no shallower
-no_shallower : (a b : Answer) → NoEasier BySpeed cut a b → Deeper 0 a b
-no_shallower (Answered f) (Answered g) (no_less no-less-cut) = let at_most = leb→le f.cut.0 g.cut.0 no-less-cut.le in omega arith
-no_shallower (Answered f) (Refused r) refused = tt
-no_shallower (Refused r) (Answered g) (cured left) = tt
-no_shallower (Refused r) (Refused r') refused = tt
+no_shallower : (a b : Result Figures Reason) → NoEasier BySpeed cut a b → Deeper 0 a b
+no_shallower (Ok f) (Ok g) (no_less no-less-cut) = let at_most = leb→le f.cut.0 g.cut.0 no-less-cut.le in omega arith
+no_shallower (Ok f) (Err r) refused = tt
+no_shallower (Err r) (Ok g) (cured left) = tt
+no_shallower (Err r) (Err r') refused = tt
 
 -- two lanes that are named read the greatest squat
 module _ (fewer two table : List ℕ) (small : Bytes fewer) (small' : Bytes two) (h : NamesTwo fewer two) where

@@ -1,4 +1,5 @@
 -- By how much the cut grows in each pair: the sheets are read from their bytes, and their designs are starred cases.
+use Rattle.std.specs.Prelude.{Ok}
 use mathlib.Core.Path.{◌≡◌, refl, sym, ap, ◌∙◌}
 use mathlib.Core.List.{List}
 use Prim.Native.Nat.{ℕ, suc, ◌+◌}
@@ -13,7 +14,6 @@ use Rattle.sheet.specs.Bits.{starts, joined, cut}
 use Rattle.sheet.specs.Fields.{count, fields, field_at, width, least, greatest, pair_bad, bad_at, first_bad}
 use Rattle.sheet.specs.Packing.{listed, number_of, groups_of, bytes_of}
 use Rattle.sheet.specs.Sheets.{level_source_of, sheet_of, sheet_from, bed_figure, figures_of, read_groups, read_of}
-use Rattle.sheet.specs.declared.SheetRead.TheVariants.{Good}
 use Rattle.design.specs.Design.{design_of}
 use Rattle.design.specs.Growth.{Growth, draft_as_much, draft_more, allowance_as_much, allowance_more, lanes_as_much, lanes_more, growths, Grown}
 use Rattle.design.specs.Harder.{figure_in, Raised}
@@ -33,7 +33,7 @@ record Pair (pair : Growth) : Type 0 where
   raised : Raised pair.field (before pair) (after pair)
   figure_grown : figure_in (before pair) pair.field + pair.figure ≡ figure_in (after pair) pair.field
 
-apart : (pair : Growth) → read_of (before pair) ≡ Good (sheet_in (before pair)) → read_of (after pair) ≡ Good (sheet_in (after pair))
+apart : (pair : Growth) → read_of (before pair) ≡ Ok (sheet_in (before pair)) → read_of (after pair) ≡ Ok (sheet_in (after pair))
     → T (figure_in (before pair) pair.field <ᵇ figure_in (after pair) pair.field)
     → T (every (suc count) (agrees pair.field (before pair) (after pair)))
     → figure_in (before pair) pair.field + pair.figure ≡ figure_in (after pair) pair.field → Pair pair

@@ -1,4 +1,5 @@
 -- Pairs of sheets that are computed: that they differ in one field, by one test over all fields, and what the starred cases give of their designs.
+use Rattle.std.specs.Prelude.{Result, Ok, Err}
 use mathlib.Core.Path.{◌≡◌, refl}
 use mathlib.Core.Bool.{Bool, true, false, ◌||◌}
 use mathlib.Core.List.{List, []}
@@ -16,8 +17,8 @@ use Rattle.sheet.specs.Fields.{count}
 use Rattle.design.specs.Harder.{figure_in}
 use Rattle.design.specs.Growth.{cut_in}
 use Rattle.design.specs.Numbers.{code_of, numbers_of}
-use Rattle.design.specs.declared.Answer.{Answer}
-use Rattle.design.specs.declared.Answer.TheVariants.{Answered, Refused}
+use Rattle.design.specs.declared.Reason.{Reason}
+use Rattle.design.specs.declared.Figures.{Figures}
 
 -- the figures of two sheets agree, but for one field
 abbrev pub agrees : ℕ → List ℕ → List ℕ → ℕ → Bool
@@ -45,12 +46,12 @@ numbers_at place designs = get_or designs place []
 abbrev pub number_at : ℕ → ℕ → List (List ℤ) → ℕ
 number_at place k designs = number_in k (numbers_at place designs)
 
-pub code_is : (a : Answer) → number_in 0 (numbers_of a) ≡ code_of a
+pub code_is : (a : Result Figures Reason) → number_in 0 (numbers_of a) ≡ code_of a
 unfolding numbers_of
-code_is (Answered f) = refl
-code_is (Refused r) = refl
+code_is (Ok f) = refl
+code_is (Err r) = refl
 
-pub cut_is : (a : Answer) → number_in 5 (numbers_of a) ≡ cut_in a
+pub cut_is : (a : Result Figures Reason) → number_in 5 (numbers_of a) ≡ cut_in a
 unfolding numbers_of
-cut_is (Answered f) = refl
-cut_is (Refused r) = refl
+cut_is (Ok f) = refl
+cut_is (Err r) = refl

@@ -1,5 +1,6 @@
 -- Each row before 16 that turns the easier of two sheets away turns the harder away, or leaves it without a depth, and what meets the harder one's depth
 -- meets the easier one's; so where the harder is answered the easier is, and only their figures are left to compare, or it has 16 or 17.
+use Rattle.std.specs.Prelude.{Result, Ok, Err}
 use mathlib.Core.Path.{◌≡◌, refl, sym, ap, ap₂, subst}
 use mathlib.Core.List.{List}
 use mathlib.Core.Logic.{◌⊎◌, inl, inr}
@@ -18,7 +19,6 @@ use Rattle.sheet.specs.Packing.{groups_of, Bytes}
 use Rattle.sheet.specs.Sheets.{level_source_of, sheet_of, read_of}
 use Rattle.sheet.specs.Refusals.{read_number}
 use Rattle.sheet.specs.declared.Sheet.{Sheet}
-use Rattle.sheet.specs.declared.SheetRead.TheVariants.{Good}
 use Rattle.sheet.specs.declared.LevelSource.{LevelSource}
 use Rattle.sheet.proofs.sheets.OneWriting.{accepted}
 use Rattle.sheet.proofs.sheets.Reading.{read_exactly}
@@ -40,14 +40,12 @@ use Rattle.design.specs.Answers.{stretch_of, FiguresAre}
 use Rattle.design.specs.Harder.{cut, Passes, BySpeed, NoEasier, no_less, refused as harder_refused, cured}
 use Rattle.design.specs.declared.Figures.{Figures}
 use Rattle.design.specs.declared.Reason.{Reason}
-use Rattle.design.specs.declared.Answer.{Answer}
-use Rattle.design.specs.declared.Answer.TheVariants.{Answered, Refused}
 use Rattle.design.proofs.answers.Numbers.{refused_some}
 use Rattle.design.proofs.rows.Exactly.{Ended}
 use Rattle.design.proofs.harder.Compared.{hardens, Compared}
 
 -- the rows, and what the two depths are worked from
-module _ (easy hard table : List ℕ) (read : read_of easy ≡ Good (sheet_in easy)) (lanes : squat_reading (lanes_for (sheet_in easy)) ≤ squat_reading (lanes_for (sheet_in hard)))
+module _ (easy hard table : List ℕ) (read : read_of easy ≡ Ok (sheet_in easy)) (lanes : squat_reading (lanes_for (sheet_in easy)) ≤ squat_reading (lanes_for (sheet_in hard)))
     (c : Compared hardens easy hard) where
   abbrev s : Sheet
   s = sheet_in easy
@@ -149,14 +147,14 @@ module _ (easy hard table : List ℕ) (read : read_of easy ≡ Good (sheet_in ea
     -- and only the figures are left to compare
     pub no_easier : (figure : Figures → ℤ)
         → ((f g : Figures) → ¬ EntryMissing s' → FiguresAre s (level_in s table) f → FiguresAre s' (level_in s' table) g → (figure f ≤ℤ figure g))
-        → (a b : Answer) → Exactly (rows easy table) (code_of a) → Ended easy table a → Ended hard table b → NoEasier BySpeed figure a b
+        → (a b : Result Figures Reason) → Exactly (rows easy table) (code_of a) → Ended easy table a → Ended hard table b → NoEasier BySpeed figure a b
     unfolding rows
-    no_easier figure at_most a (Refused r) exact t u = harder_refused
-    no_easier figure at_most a (Answered g) exact t (inr u) = absurd u.1
-    no_easier figure at_most (Answered f) (Answered g) exact (inl t) (inl u) =
+    no_easier figure at_most a (Err r) exact t u = harder_refused
+    no_easier figure at_most a (Ok g) exact t (inr u) = absurd u.1
+    no_easier figure at_most (Ok f) (Ok g) exact (inl t) (inl u) =
         no_less (at_most f g (none_held (rows hard table) u.0 8) t.1 u.1)
-    no_easier figure at_most (Answered f) (Answered g) exact (inr t) (inl u) = absurd t.1
-    no_easier figure at_most (Refused r) (Answered g) exact t (inl u) =
+    no_easier figure at_most (Ok f) (Ok g) exact (inr t) (inl u) = absurd t.1
+    no_easier figure at_most (Err r) (Ok g) exact t (inl u) =
         cured (by_speed_lem r (speed_left (reason_number r) exact
         (carried (before 16 (rows easy table)) (before 16 (rows hard table)) (rows_carried g.cut.0 u.1.cut.holds) (none_before 16 (rows hard table) u.0))))
 

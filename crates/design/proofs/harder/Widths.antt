@@ -1,4 +1,5 @@
 -- Where only beam, wind, currents and wave are moved, the depth is worked from the same figures, and the width is that of a harder stretch.
+use Rattle.std.specs.Prelude.{Result}
 use mathlib.Core.Path.{◌≡◌, refl, sym, ap, ap₂, subst, subst⁻¹, ◌∙◌}
 use mathlib.Core.List.{List}
 use Prim.Native.Nat.{ℕ, ◌≤◌}
@@ -17,7 +18,6 @@ use Rattle.width.specs.Refusals.{entries_number}
 use Rattle.width.specs.Width.{width_figure}
 use Rattle.width.specs.Comparing.{changed, Harder as HarderWidth}
 use Rattle.width.specs.declared.Stretch.{Stretch as WidthStretch}
-use Rattle.width.specs.declared.EntriesFound.{EntriesFound}
 use Rattle.width.proofs.Refusals.{entries_exactly}
 use Rattle.width.proofs.Promises.{harder_never_narrower, figure_no_less}
 use Rattle.design.specs.Design.{width_stretch, lanes_for}
@@ -26,6 +26,8 @@ use Rattle.design.specs.Answers.{stretch_of, FiguresAre}
 use Rattle.design.specs.Harder.{width}
 use Rattle.design.specs.declared.Figures.{Figures}
 use Rattle.design.proofs.harder.Compared.{widens, Compared}
+use Rattle.width.specs.declared.WidthFault.{WidthFault}
+use Rattle.width.specs.declared.Entries.{Entries}
 
 -- what a width is worked from beside its entries, apart from beam, wind and along current
 stretch_same : (s s' : Sheet) {l l' : Lanes} {z z' : BelowLevel} → s.draft ≡ s'.draft → s.ships ≡ s'.ships
@@ -92,10 +94,10 @@ module _ (easy hard table : List ℕ) (lanes : lanes_for (sheet_in easy) ≡ lan
           equal = others_same;
         }
 
-    abbrev found : EntriesFound
+    abbrev found : Result Entries WidthFault
     found = entries_of (sheet_in easy).water (sheet_in easy).speed (sheet_in easy).cross (sheet_in easy).wave
 
-    abbrev found' : EntriesFound
+    abbrev found' : Result Entries WidthFault
     found' = entries_of (sheet_in hard).water (sheet_in hard).speed (sheet_in hard).cross (sheet_in hard).wave
 
     figures_rise : entries_number found' ≡ 0 → width_figure w found ≤ width_figure w' found'

@@ -1,7 +1,7 @@
 -- `engine::by_figure` meets its contract: a figure is over 3,000, or it falls in its column.
+use Rattle.std.specs.Prelude.{Ok}
 use mathlib.Core.Path.{ap, ◌∙◌}
 use native.Mathlib.Omega.{arith}
-use Rattle.engine.specs.declared.Ruling.TheVariants.{FallsIn}
 use Rattle.engine.proofs.Tests.{figure_over, figure_falls}
 use Rattle.engine.proofs.by_figure.Goals as goal
 
@@ -9,4 +9,4 @@ pub returns-then-d-gt-DEEPEST : goal.returns-then-d-gt-DEEPEST
 returns-then-d-gt-DEEPEST c = figure_over c.args.natural.0 c.args.d (omega arith)
 
 pub returns : goal.returns
-returns c = ap FallsIn c.column_at.ensures ∙ figure_falls c.args.natural.0 c.args.d (omega arith)
+returns c = ap Ok c.column_at.ensures ∙ figure_falls c.args.natural.0 c.args.d (omega arith)

@@ -1,21 +1,21 @@
 -- `engine::plain_depth` meets its contract: the first cut and its figures, or the reason why there is none.
+use Rattle.std.specs.Prelude.{Ok, Err}
 use mathlib.Core.Path.{sym, ap, ◌∙◌}
-use Rattle.engine.specs.declared.PlainDepth.TheVariants.{Met, Unmet}
 use Rattle.engine.specs.Plain.{by_search, plain_depth}
 use Rattle.engine.proofs.Straight.{cut_found}
 use Rattle.engine.proofs.plain_depth.Goals as goal
 
 pub figures_at-requires : goal.figures_at-requires
-figures_at-requires c = cut_found c.args.stretch _ (sym c.first_cut-found.ensures ∙ c.in-At.is)
+figures_at-requires c = cut_found c.args.stretch _ (sym c.first_cut-found.ensures ∙ c.in-Some.is)
 
-pub returns-in-At : goal.returns-in-At
+pub returns-in-Some : goal.returns-in-Some
 unfolding plain_depth
-returns-in-At c =
+returns-in-Some c =
     let a = c.args in
-    ap Met c.figures_at.ensures ∙ ap (by_search a.stretch) (sym c.in-At.is ∙ c.first_cut-found.ensures)
+    ap Ok c.figures_at.ensures ∙ ap (by_search a.stretch) (sym c.in-Some.is ∙ c.first_cut-found.ensures)
 
-pub returns-in-Nowhere : goal.returns-in-Nowhere
+pub returns-in-None : goal.returns-in-None
 unfolding plain_depth
-returns-in-Nowhere c =
+returns-in-None c =
     let a = c.args in
-    ap Unmet c.reason_of.ensures ∙ ap (by_search a.stretch) (sym c.in-Nowhere.is ∙ c.first_cut-found.ensures)
+    ap Err c.reason_of.ensures ∙ ap (by_search a.stretch) (sym c.in-None.is ∙ c.first_cut-found.ensures)

@@ -9,14 +9,14 @@ pub loop-left-init : goal.loop-left-init
 unfolding reason_of
 loop-left-init c = refl
 
-pub returns-in-Fails : goal.returns-in-Fails
-returns-in-Fails c =
-    fails_here c.args.stretch c.loop-left.left c.loop-left.column _ (omega arith) (sym c.ruling_of-ruling.ensures ∙ c.in-Fails.is)
+pub returns-in-Err : goal.returns-in-Err
+returns-in-Err c =
+    fails_here c.args.stretch c.loop-left.left c.loop-left.column _ (omega arith) (sym c.ruling_of-ruling.ensures ∙ c.in-Err.is)
     ∙ c.loop-left.invariant
 
 pub loop-left-preserved : goal.loop-left-preserved
 loop-left-preserved c =
-    falls_on c.args.stretch c.loop-left.left c.loop-left.column _ (omega arith) (sym c.ruling_of-ruling.ensures ∙ c.in-FallsIn.is)
+    falls_on c.args.stretch c.loop-left.left c.loop-left.column _ (omega arith) (sym c.ruling_of-ruling.ensures ∙ c.in-Ok.is)
     ∙ c.loop-left.invariant
 
 pub returns : goal.returns

@@ -1,4 +1,5 @@
 -- What reading and writing answer, case by case.
+use Rattle.std.specs.Prelude.{tt, Ok, Err}
 use mathlib.Core.Path.{◌≡◌, refl}
 use mathlib.Core.List.{List, ◌++◌}
 use Prim.Native.Nat.{ℕ, ◌<◌, ◌≤◌}
@@ -9,19 +10,17 @@ use Rattle.sheet.specs.Fields.{count, nth, first_bad}
 use Rattle.sheet.specs.Packing.{size, groups_of, figures_in, bytes_of}
 use Rattle.sheet.specs.Sheets.{figures_of, sheet_from, read_groups, read_of, written_of, place_of}
 use Rattle.sheet.specs.declared.Sheet.{Sheet}
-use Rattle.sheet.specs.declared.SheetRead.TheVariants.{NoSheet}
 use Rattle.sheet.specs.declared.ReadFault.TheVariants.{WrongLength, SpareBitSet}
-use Rattle.sheet.specs.declared.SheetWritten.TheVariants.{Done, NotWritten}
 use Rattle.sheet.specs.declared.WriteFault.TheVariants.{PlaceTooSmall, BadField as BadFieldToWrite}
 use Rattle.sheet.proofs.figures.SameFields.{sheet_from_same}
 
 module _ (b : List ℕ) where
-  pub read_length : (length b ≡ size → ⊥) → NoSheet WrongLength ≡ read_of b
+  pub read_length : (length b ≡ size → ⊥) → Err WrongLength ≡ read_of b
   unfolding read_of
   read_length h = rw (ne_eqb (length b) size h)
 
   module _ (spare : ℕ) (l : length b ≡ size) (e : spare ≡ nth (groups_of b) count) where
-    pub read_spare : (spare ≡ 0 → ⊥) → NoSheet SpareBitSet ≡ read_of b
+    pub read_spare : (spare ≡ 0 → ⊥) → Err SpareBitSet ≡ read_of b
     unfolding read_of read_groups
     read_spare h = rw (eq-eqb (length b) size l, ← e, ne_eqb spare 0 h)
 
@@ -35,16 +34,16 @@ module _ (b : List ℕ) where
   figures_in_lem = sheet_from_same (take count (groups_of b)) (groups_of b) (λ k h. get_or-take count (groups_of b) k 0 h)
 
 module _ (s : Sheet) (place : List ℕ) where
-  pub write_small : length place < size → (NotWritten PlaceTooSmall ≡ written_of s place) × (place ≡ place_of s place)
+  pub write_small : length place < size → (Err PlaceTooSmall ≡ written_of s place) × (place ≡ place_of s place)
   unfolding written_of place_of
   write_small l = rw (lt-ltb (length place) size l) (refl, refl)
 
   module _ (v : List ℕ) (k : ℕ) (l : size ≤ length place) (e : v ≡ figures_of s) (f : k ≡ first_bad v) where
-    pub write_bad : (k ≡ 0 → ⊥) → (NotWritten (BadFieldToWrite k) ≡ written_of s place) × (place ≡ place_of s place)
+    pub write_bad : (k ≡ 0 → ⊥) → (Err (BadFieldToWrite k) ≡ written_of s place) × (place ≡ place_of s place)
     unfolding written_of place_of
     write_bad h = rw (le-ltb (length place) size l, ← e, ← f, ne_eqb k 0 h) (refl, refl)
 
     pub write_done : (o : List ℕ) → k ≡ 0 → o ≡ bytes_of v ++ drop size place
-        → (Done ≡ written_of s place) × (o ≡ place_of s place)
+        → ((Ok tt) ≡ written_of s place) × (o ≡ place_of s place)
     unfolding written_of place_of
     write_done o h g = rw (le-ltb (length place) size l, ← e, ← f, eq-eqb k 0 h) (refl, g)

@@ -1,4 +1,5 @@
 -- What figures make: a sheet whose figures they are, or the first bad field.
+use Rattle.std.specs.Prelude.{Result, Ok, Err}
 use mathlib.Core.Path.{◌≡◌, refl, sym, ◌∙◌}
 use mathlib.Core.Bool.{Bool, true, false}
 use mathlib.Core.List.{List}
@@ -16,8 +17,6 @@ use Rattle.sheet.specs.Packing.{listed}
 use Rattle.sheet.specs.Refusals.{read_number, read_field}
 use Rattle.sheet.specs.Sheets.{sheet_of, bed_figure, figures_of, sheet_from, Valid}
 use Rattle.sheet.specs.declared.Sheet.{Sheet}
-use Rattle.sheet.specs.declared.SheetRead.{SheetRead}
-use Rattle.sheet.specs.declared.SheetRead.TheVariants.{Good, NoSheet}
 use Rattle.sheet.specs.declared.ReadFault.TheVariants.{BadField}
 use Rattle.sheet.proofs.bits.Regroup.{listed_is}
 use Rattle.sheet.proofs.fields.BadFields.{first_least, none_bad}
@@ -25,13 +24,14 @@ use Rattle.sheet.proofs.figures.Beds.{bed_back}
 use Rattle.sheet.proofs.figures.Levels.{level_back, figures_back}
 use Rattle.sheet.proofs.figures.SameFields.{only_fields, only_fields_at, first_bad_same}
 use Rattle.sheet.proofs.sheets.Valid.{fine}
+use Rattle.sheet.specs.declared.ReadFault.{ReadFault}
 
 module _ (v : List ℕ) (k : ℕ) (f : k ≡ first_bad v) where
-  pub from_bad : (k ≡ 0 → ⊥) → NoSheet (BadField k) ≡ sheet_from v
+  pub from_bad : (k ≡ 0 → ⊥) → Err (BadField k) ≡ sheet_from v
   unfolding sheet_from
   from_bad h = rw (← f, ne_eqb k 0 h)
 
-  pub from_good : (s : Sheet) → k ≡ 0 → s ≡ sheet_of v → Good s ≡ sheet_from v
+  pub from_good : (s : Sheet) → k ≡ 0 → s ≡ sheet_of v → Ok s ≡ sheet_from v
   unfolding sheet_from
   from_good s h g = rw (← f, eq-eqb k 0 h, g)
 
@@ -55,24 +55,24 @@ unfolding Valid
 valid_sheet v e = rw (figures_of_sheet v e) (first_bad_same (only_fields v) v (only_fields_at v) ∙ e)
 
 -- a valid sheet is that of its figures
-pub from_figures : (s : Sheet) → Valid s → sheet_from (figures_of s) ≡ Good s
+pub from_figures : (s : Sheet) → Valid s → sheet_from (figures_of s) ≡ Ok s
 unfolding Valid
 from_figures s e = sym (from_good (figures_of s) 0 (sym e) s refl (sym (sheet_of_figures s e)))
 
 -- the two ways of making: what is so of each is so of its answer
-module _ (v : List ℕ) (P : SheetRead → Type 0) where
-  pub from_cases : (first_bad v ≡ 0 → P (Good (sheet_of v))) → ((first_bad v ≡ 0 → ⊥) → P (NoSheet (BadField (first_bad v)))) → P (sheet_from v)
+module _ (v : List ℕ) (P : Result Sheet ReadFault → Type 0) where
+  pub from_cases : (first_bad v ≡ 0 → P (Ok (sheet_of v))) → ((first_bad v ≡ 0 → ⊥) → P (Err (BadField (first_bad v)))) → P (sheet_from v)
   unfolding sheet_from
   from_cases fine named = go (eqb (first_bad v) 0) refl
     where
-      go : (b : Bool) → eqb (first_bad v) 0 ≡ b → P (ifᵇ b then Good (sheet_of v) else NoSheet (BadField (first_bad v)))
+      go : (b : Bool) → eqb (first_bad v) 0 ≡ b → P (ifᵇ b then Ok (sheet_of v) else Err (BadField (first_bad v)))
       go true e = fine (eqb-true (first_bad v) 0 e)
       go false e = named (eqb-false (first_bad v) 0 e)
 
 -- a sheet that figures make has those figures
-pub figures_of_made : (v : List ℕ) (s : Sheet) → length v ≡ count → sheet_from v ≡ Good s → figures_of s ≡ v
+pub figures_of_made : (v : List ℕ) (s : Sheet) → length v ≡ count → sheet_from v ≡ Ok s → figures_of s ≡ v
 figures_of_made v s l =
-    from_cases v (λ r. r ≡ Good s → figures_of s ≡ v)
+    from_cases v (λ r. r ≡ Ok s → figures_of s ≡ v)
     (λ none e. let sheet : s ≡ sheet_of v = cc in rw sheet (figures_of_sheet v none ∙ sym (listed_is (nth v) count v l (λ k h. refl))))
     (λ some e. never cc)
 
@@ -80,7 +80,7 @@ figures_of_made v s l =
 module _ (v : List ℕ) where
   pub from_named_exactly : (k : ℕ) → ((read_number (sheet_from v) ≡ 3) × (read_field (sheet_from v) ≡ k)) ↔ Least (Bad v) k
   from_named_exactly k =
-      from_cases v (λ (r : SheetRead). ((read_number r ≡ 3) × (read_field r ≡ k)) ↔ Least (Bad v) k)
+      from_cases v (λ (r : Result Sheet ReadFault). ((read_number r ≡ 3) × (read_field r ≡ k)) ↔ Least (Bad v) k)
       (λ none. (
         (λ e. absurd (omega (arith, e.0))),
         (λ l. absurd ((none_bad v).0 none k l.holds)),
@@ -90,9 +90,9 @@ module _ (v : List ℕ) where
         (λ l. (refl, ((first_least v k).1 l).0)),
       ))
 
-  pub from_good_exactly : ((s : Sheet) × (sheet_from v ≡ Good s)) ↔ ((k : ℕ) → ¬ Bad v k)
+  pub from_good_exactly : ((s : Sheet) × (sheet_from v ≡ Ok s)) ↔ ((k : ℕ) → ¬ Bad v k)
   from_good_exactly =
-      from_cases v (λ (r : SheetRead). ((s : Sheet) × (r ≡ Good s)) ↔ ((k : ℕ) → ¬ Bad v k))
+      from_cases v (λ (r : Result Sheet ReadFault). ((s : Sheet) × (r ≡ Ok s)) ↔ ((k : ℕ) → ¬ Bad v k))
       (λ none. (
         (λ g. (none_bad v).0 none),
         (λ h. (sheet_of v, refl)),

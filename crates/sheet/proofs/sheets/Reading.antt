@@ -1,4 +1,5 @@
 -- Each answer of reading, and exactly when it is given.
+use Rattle.std.specs.Prelude.{Result, Ok, Err}
 use mathlib.Core.Path.{◌≡◌, refl, sym, ◌∙◌}
 use mathlib.Core.Bool.{Bool, true, false}
 use mathlib.Core.List.{List}
@@ -19,20 +20,19 @@ use Rattle.sheet.specs.Packing.{size, groups_of, figures_in, Bytes, SpareSet}
 use Rattle.sheet.specs.Refusals.{read_rows, read_number, read_field}
 use Rattle.sheet.specs.Sheets.{sheet_of, sheet_from, read_groups, read_of}
 use Rattle.sheet.specs.declared.Sheet.{Sheet}
-use Rattle.sheet.specs.declared.SheetRead.{SheetRead}
-use Rattle.sheet.specs.declared.SheetRead.TheVariants.{Good, NoSheet}
 use Rattle.sheet.specs.declared.ReadFault.TheVariants.{WrongLength, SpareBitSet, BadField}
 use Rattle.sheet.proofs.sheets.Answers.{read_from, figures_in_lem}
 use Rattle.sheet.proofs.fields.BadFields.{bad_within, first_least, none_bad}
 use Rattle.sheet.proofs.sheets.Making.{from_cases}
 use Rattle.sheet.proofs.bits.Spare.{spare_set}
+use Rattle.sheet.specs.declared.ReadFault.{ReadFault}
 
 -- the four ways of a reading: what is so of each is so of its answer
-module _ (b : List ℕ) (P : SheetRead → Type 0) where
-  pub read_cases : (length b ≢ size → P (NoSheet WrongLength))
-      → (length b ≡ size → nth (groups_of b) count ≢ 0 → P (NoSheet SpareBitSet))
-      → ((k : ℕ) → length b ≡ size → nth (groups_of b) count ≡ 0 → first_bad (groups_of b) ≡ k → k ≢ 0 → P (NoSheet (BadField k)))
-      → (length b ≡ size → nth (groups_of b) count ≡ 0 → first_bad (groups_of b) ≡ 0 → P (Good (sheet_of (groups_of b))))
+module _ (b : List ℕ) (P : Result Sheet ReadFault → Type 0) where
+  pub read_cases : (length b ≢ size → P (Err WrongLength))
+      → (length b ≡ size → nth (groups_of b) count ≢ 0 → P (Err SpareBitSet))
+      → ((k : ℕ) → length b ≡ size → nth (groups_of b) count ≡ 0 → first_bad (groups_of b) ≡ k → k ≢ 0 → P (Err (BadField k)))
+      → (length b ≡ size → nth (groups_of b) count ≡ 0 → first_bad (groups_of b) ≡ 0 → P (Ok (sheet_of (groups_of b))))
       → P (read_of b)
   unfolding read_of read_groups
   read_cases long spare bad good = go (eqb (length b) size) (eqb (nth v count) 0) refl refl
@@ -41,7 +41,7 @@ module _ (b : List ℕ) (P : SheetRead → Type 0) where
       v = groups_of b
 
       go : (l z : Bool) → eqb (length b) size ≡ l → eqb (nth v count) 0 ≡ z
-          → P (ifᵇ l then (ifᵇ z then sheet_from v else NoSheet SpareBitSet) else NoSheet WrongLength)
+          → P (ifᵇ l then (ifᵇ z then sheet_from v else Err SpareBitSet) else Err WrongLength)
       go true true p q =
           from_cases v P (good (eqb-true _ _ p) (eqb-true _ _ q)) (bad (first_bad v) (eqb-true _ _ p) (eqb-true _ _ q) refl)
       go true false p q = spare (eqb-true _ _ p) (eqb-false _ _ q)
@@ -55,14 +55,14 @@ named_within b =
     (λ l z f. zero-le)
 
 -- what is told of a reading: a sheet is that of the bytes' groups, and a bad field that is named is the first
-abbrev pub Unread : List ℕ → SheetRead → Type 0
-Unread b (Good s) = ⊥
-Unread b (NoSheet WrongLength) = Unit {0}
-Unread b (NoSheet SpareBitSet) = Unit {0}
-Unread b (NoSheet (BadField k)) = Least (Bad (groups_of b)) k
+abbrev pub Unread : List ℕ → Result Sheet ReadFault → Type 0
+Unread b (Ok s) = ⊥
+Unread b (Err WrongLength) = Unit {0}
+Unread b (Err SpareBitSet) = Unit {0}
+Unread b (Err (BadField k)) = Least (Bad (groups_of b)) k
 
-abbrev pub reads : List ℕ → Call SheetRead
-reads b = record { number = read_number; answered = λ r. r ≡ Good (sheet_of (groups_of b)); refused = Unread b }
+abbrev pub reads : List ℕ → Call (Result Sheet ReadFault)
+reads b = record { number = read_number; answered = λ r. r ≡ Ok (sheet_of (groups_of b)); refused = Unread b }
 
 -- 1 exactly when there are not 28 bytes
 pub wrong_length_exactly : (b : List ℕ) → (read_number (read_of b) ≡ 1) ↔ (length b ≢ size)
@@ -105,9 +105,9 @@ module _ (b : List ℕ) (small : Bytes b) where
   clear h = let z : ¬ (1 ≤ nth (groups_of b) count) = λ n. h ((spare_set b small).1 (λ e. omega arith)) in omega arith
 
   -- a sheet exactly when none of the three holds
-  pub good_exactly : ((s : Sheet) × (read_of b ≡ Good s)) ↔ ((length b ≡ size) × (¬ SpareSet b) × ((k : ℕ) → ¬ Bad (groups_of b) k))
+  pub good_exactly : ((s : Sheet) × (read_of b ≡ Ok s)) ↔ ((length b ≡ size) × (¬ SpareSet b) × ((k : ℕ) → ¬ Bad (groups_of b) k))
   good_exactly =
-      read_cases b (λ r. ((s : Sheet) × (r ≡ Good s)) ↔ ((length b ≡ size) × (¬ SpareSet b) × ((k : ℕ) → ¬ Bad (groups_of b) k)))
+      read_cases b (λ r. ((s : Sheet) × (r ≡ Ok s)) ↔ ((length b ≡ size) × (¬ SpareSet b) × ((k : ℕ) → ¬ Bad (groups_of b) k)))
       (λ h. (λ g. let e = g.1 in never cc, λ n. absurd (h n.0)))
       (λ l z. (λ g. let e = g.1 in never cc, λ n. absurd (n.1 ((spare_set b small).1 z))))
       (λ k l z f n. (λ g. let e = g.1 in never cc, λ n'. absurd (n'.2 k ((first_least (groups_of b) k).0 (f, n)).holds)))

@@ -1,4 +1,5 @@
 -- Each answer of writing, exactly when it is given, and what the place then holds.
+use Rattle.std.specs.Prelude.{Unit, tt, Result, Ok, Err}
 use mathlib.Core.Path.{◌≡◌, refl}
 use mathlib.Core.Bool.{Bool, true, false}
 use mathlib.Core.List.{List, ◌++◌}
@@ -20,18 +21,16 @@ use Rattle.sheet.specs.Packing.{size, bytes_of}
 use Rattle.sheet.specs.Sheets.{figures_of, read_of, written_of, place_of, Valid}
 use Rattle.sheet.specs.Refusals.{written_rows, written_number, written_field}
 use Rattle.sheet.specs.declared.Sheet.{Sheet}
-use Rattle.sheet.specs.declared.SheetRead.TheVariants.{Good}
-use Rattle.sheet.specs.declared.SheetWritten.{SheetWritten}
-use Rattle.sheet.specs.declared.SheetWritten.TheVariants.{Done, NotWritten}
 use Rattle.sheet.specs.declared.WriteFault.TheVariants.{PlaceTooSmall, BadField as BadFieldToWrite}
 use Rattle.sheet.proofs.fields.BadFields.{first_least, none_bad}
 use Rattle.sheet.proofs.sheets.OneWriting.{bytes_length, read_place}
+use Rattle.sheet.specs.declared.WriteFault.{WriteFault}
 
 -- the three ways of a writing: what is so of each is so of its answer and of what it leaves
-module _ (s : Sheet) (place : List ℕ) (P : SheetWritten → List ℕ → Type 0) where
-  pub written_cases : (length place < size → P (NotWritten PlaceTooSmall) place)
-      → ((k : ℕ) → size ≤ length place → first_bad (figures_of s) ≡ k → (k ≡ 0 → ⊥) → P (NotWritten (BadFieldToWrite k)) place)
-      → (size ≤ length place → first_bad (figures_of s) ≡ 0 → P Done (bytes_of (figures_of s) ++ drop size place))
+module _ (s : Sheet) (place : List ℕ) (P : Result (Unit {0}) WriteFault → List ℕ → Type 0) where
+  pub written_cases : (length place < size → P (Err PlaceTooSmall) place)
+      → ((k : ℕ) → size ≤ length place → first_bad (figures_of s) ≡ k → (k ≡ 0 → ⊥) → P (Err (BadFieldToWrite k)) place)
+      → (size ≤ length place → first_bad (figures_of s) ≡ 0 → P (Ok tt) (bytes_of (figures_of s) ++ drop size place))
       → P (written_of s place) (place_of s place)
   unfolding written_of place_of
   written_cases small bad done = go (ltb (length place) size) (eqb (first_bad v) 0) refl refl
@@ -40,7 +39,7 @@ module _ (s : Sheet) (place : List ℕ) (P : SheetWritten → List ℕ → Type 
       v = figures_of s
 
       go : (l n : Bool) → ltb (length place) size ≡ l → eqb (first_bad v) 0 ≡ n
-          → P (ifᵇ l then NotWritten PlaceTooSmall else (ifᵇ n then Done else NotWritten (BadFieldToWrite (first_bad v))))
+          → P (ifᵇ l then Err PlaceTooSmall else (ifᵇ n then (Ok tt) else Err (BadFieldToWrite (first_bad v))))
           (ifᵇ l then place else (ifᵇ n then bytes_of v ++ drop size place else place))
       go true n p q = small (ltb-true _ _ p)
       go false true p q = done (ltb-false _ _ p) (eqb-true _ _ q)
@@ -74,21 +73,21 @@ module _ (s : Sheet) (place : List ℕ) where
       (λ l f. (λ e. absurd (omega arith), λ h. absurd (omega arith)))
 
   -- done exactly when neither holds
-  pub done_exactly : (written_of s place ≡ Done) ↔ ((size ≤ length place) × ((k : ℕ) → ¬ Bad (figures_of s) k))
+  pub done_exactly : (written_of s place ≡ (Ok tt)) ↔ ((size ≤ length place) × ((k : ℕ) → ¬ Bad (figures_of s) k))
   done_exactly =
-      written_cases s place (λ w o. (w ≡ Done) ↔ ((size ≤ length place) × ((k : ℕ) → ¬ Bad (figures_of s) k)))
+      written_cases s place (λ w o. (w ≡ (Ok tt)) ↔ ((size ≤ length place) × ((k : ℕ) → ¬ Bad (figures_of s) k)))
       (λ l. (λ e. never cc, λ h. absurd (omega (arith, h.0))))
       (λ k l f n. (λ e. never cc, λ h. absurd (h.1 k ((first_least (figures_of s) k).0 (f, n)).holds)))
       (λ l f. (λ e. (l, (none_bad (figures_of s)).0 f), λ h. refl))
 
   -- what is written is read as the same sheet
-  pub read_done : written_of s place ≡ Done → read_of (take size (place_of s place)) ≡ Good s
+  pub read_done : written_of s place ≡ (Ok tt) → read_of (take size (place_of s place)) ≡ Ok s
   unfolding Valid
   read_done e = let h = done_exactly.0 e in read_place s place h.0 ((none_bad (figures_of s)).1 h.1)
 
   -- a refused writing changes no byte
-  pub refused_unchanged : (written_of s place ≡ Done → ⊥) → place_of s place ≡ place
-  refused_unchanged = written_cases s place (λ w o. (w ≡ Done → ⊥) → o ≡ place) (λ l n. refl) (λ k l f m n. refl) (λ l f n. absurd (n refl))
+  pub refused_unchanged : (written_of s place ≡ (Ok tt) → ⊥) → place_of s place ≡ place
+  refused_unchanged = written_cases s place (λ w o. (w ≡ (Ok tt) → ⊥) → o ≡ place) (λ l n. refl) (λ k l f m n. refl) (λ l f n. absurd (n refl))
 
   -- any writing changes none past the 28th
   pub past_unchanged : drop size (place_of s place) ≡ drop size place

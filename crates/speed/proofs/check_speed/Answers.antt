@@ -1,7 +1,7 @@
 -- `speed::check_speed` meets its contract: by the slope, then by the speed.
+use Rattle.std.specs.Prelude.{Some, None}
 use mathlib.Core.Path.{refl}
 use native.Mathlib.Omega.{arith}
-use Rattle.speed.specs.declared.Speed.TheVariants.{Parts, Missing}
 use Rattle.speed.proofs.Ways.{by_speed_lem}
 use Rattle.speed.proofs.check_speed.Goals as goal
 
@@ -10,8 +10,8 @@ against_of-requires c = rw c.in-Parts.is at c.critical_speed-speed.ensures.small
 
 pub returns-in-Parts : goal.returns-in-Parts
 returns-in-Parts c =
-    by_speed_lem c.args.section _ (omega arith) _ (Parts c.in-Parts.parts) _ c.in-Parts.is c.critical_speed-speed.ensures.value c.against_of.ensures
+    by_speed_lem c.args.section _ (omega arith) _ (Some c.in-Parts.parts) _ c.in-Parts.is c.critical_speed-speed.ensures.value c.against_of.ensures
 
 pub returns-in-Missing : goal.returns-in-Missing
 returns-in-Missing c =
-    by_speed_lem c.args.section c.args.knots (omega arith) _ Missing _ c.in-Missing.is c.critical_speed-speed.ensures.value refl
+    by_speed_lem c.args.section c.args.knots (omega arith) _ None _ c.in-Missing.is c.critical_speed-speed.ensures.value refl

@@ -7,13 +7,13 @@ use Rattle.speed.proofs.fastest_of.Goals as goal
 
 pub overflow_mul-parts : goal.overflow_mul-parts
 overflow_mul-parts c =
-    let small : c.in-Parts.parts < 2 ^ 46 = rw c.in-Parts.is at c.requires in
+    let small : c.in-Some.parts < 2 ^ 46 = rw c.in-Some.is at c.requires in
     record { fits = omega arith }
 
-pub returns-in-Parts : goal.returns-in-Parts
+pub returns-in-Some : goal.returns-in-Some
 unfolding fastest_speed
-returns-in-Parts c = rw c.in-Parts.is c.over_of.ensures
+returns-in-Some c = rw c.in-Some.is c.over_of.ensures
 
-pub returns-in-Missing : goal.returns-in-Missing
+pub returns-in-None : goal.returns-in-None
 unfolding fastest_speed
-returns-in-Missing c = rw c.in-Missing.is (over_missing _)
+returns-in-None c = rw c.in-None.is (over_missing _)

@@ -1,4 +1,5 @@
 -- A straight line over a grid: the weights of the two lines beside x, which lines are needed, and what the drawn line comes to.
+use Rattle.std.specs.Prelude.{Option, Some, None}
 use mathlib.Core.Path.{◌≡◌, refl, ap, sym, ◌∙◌}
 use mathlib.Core.Logic.{◌⊎◌, inl, inr, ◌≢◌, ⊎_elim}
 use mathlib.Core.Bool.{Bool, true, false}
@@ -7,8 +8,6 @@ use native.Mathlib.Nat.{div-add-mod', mod-lt, mul-le-mul_right, mul-le-mul_left,
 use native.Mathlib.Omega.{arith}
 use borrow.Author.Tests.{eqb-true, eqb-false, ltb-true, ltb-false}
 use lib.Dec.{eqb, ltb}
-use Rattle.speed.specs.declared.Speed.{Speed}
-use Rattle.speed.specs.declared.Speed.TheVariants.{Parts, Missing}
 use Rattle.speed.specs.Lines.{parts_of, times, straight}
 use Rattle.speed.specs.Weights.{weight}
 use Rattle.speed.proofs.lines.Weighing.{product_most, weighed_known, weighed_from, weighed_missing, near_missing, far_missing, weighed_same, weighed_alone}
@@ -58,36 +57,36 @@ module _ (step x : ℕ) (some : 0 < step) where
   pub next_needed : 0 < x % step → 0 < weight step x (x / step + 1)
   next_needed h = rw weight_next h
 
-  module _ (f : ℕ → Speed) where
-    pub straight_missing : straight step x f ≡ Missing → (k : ℕ) × ((0 < weight step x k) × (f k ≡ Missing))
+  module _ (f : ℕ → Option ℕ) where
+    pub straight_missing : straight step x f ≡ None → (k : ℕ) × ((0 < weight step x k) × (f k ≡ None))
     unfolding straight
     straight_missing e =
         ⊎_elim (λ near. (x / step, (near_needed, near.1))) (λ next. (x / step + 1, (next_needed next.0, next.1)))
         (weighed_missing _ (f (x / step)) _ (f (x / step + 1)) e)
 
-    pub missing_straight : (k : ℕ) → 0 < weight step x k → f k ≡ Missing → straight step x f ≡ Missing
+    pub missing_straight : (k : ℕ) → 0 < weight step x k → f k ≡ None → straight step x f ≡ None
     unfolding straight
     missing_straight k h e =
         ⊎_elim (λ near. near_missing _ _ _ _ (omega (arith, mod-lt x some)) (rw near at e))
         (λ next. far_missing _ _ _ _ next.1 (rw next.0 at e))
         (needed_line k h)
 
-    pub straight_known : (n : ℕ) → straight step x f ≡ Parts n → n ≡ line step x (λ k. parts_of (f k))
+    pub straight_known : (n : ℕ) → straight step x f ≡ Some n → n ≡ line step x (λ k. parts_of (f k))
     unfolding straight
     straight_known n e = weighed_known _ (f (x / step)) _ (f (x / step + 1)) n e
 
     -- the same by what the speeds of the lines with weight come to
-    pub straight_from : (g : ℕ → ℕ) → ((k : ℕ) → 0 < weight step x k → (m : ℕ) → f k ≡ Parts m → m ≡ g k)
-        → (n : ℕ) → straight step x f ≡ Parts n → n ≡ line step x g
+    pub straight_from : (g : ℕ → ℕ) → ((k : ℕ) → 0 < weight step x k → (m : ℕ) → f k ≡ Some m → m ≡ g k)
+        → (n : ℕ) → straight step x f ≡ Some n → n ≡ line step x g
     unfolding straight
     straight_from g from = weighed_from _ _ _ _ _ _ (λ h. from (x / step) near_needed) (λ h. from (x / step + 1) (next_needed h))
 
   -- only the lines with weight count: any other point changes nothing
-  pub straight_only : (f g : ℕ → Speed) → ((k : ℕ) → 0 < weight step x k → f k ≡ g k) → straight step x f ≡ straight step x g
+  pub straight_only : (f g : ℕ → Option ℕ) → ((k : ℕ) → 0 < weight step x k → f k ≡ g k) → straight step x f ≡ straight step x g
   unfolding straight
   straight_only f g same = weighed_same _ _ _ _ _ _ (λ h. same (x / step) near_needed) (λ h. same (x / step + 1) (next_needed h))
 
-  pub straight_same : (f g : ℕ → Speed) → ((k : ℕ) → f k ≡ g k) → straight step x f ≡ straight step x g
+  pub straight_same : (f g : ℕ → Option ℕ) → ((k : ℕ) → f k ≡ g k) → straight step x f ≡ straight step x g
   straight_same f g same = straight_only f g (λ k h. same k)
 
   -- the two weights are the whole step
@@ -105,12 +104,12 @@ module _ (step x : ℕ) (some : 0 < step) where
       )
 
 -- the same of speeds
-pub straight_between : (step x : ℕ) → 0 < step → (f : ℕ → Speed) (lo hi n : ℕ)
-    → ((k : ℕ) → 0 < weight step x k → (lo ≤ parts_of (f k)) × (parts_of (f k) ≤ hi)) → straight step x f ≡ Parts n → (lo * step ≤ n) × (n ≤ hi * step)
+pub straight_between : (step x : ℕ) → 0 < step → (f : ℕ → Option ℕ) (lo hi n : ℕ)
+    → ((k : ℕ) → 0 < weight step x k → (lo ≤ parts_of (f k)) × (parts_of (f k) ≤ hi)) → straight step x f ≡ Some n → (lo * step ≤ n) × (n ≤ hi * step)
 straight_between step x some f lo hi n within e =
     rw (straight_known step x some f n e) (line_between step x some (λ k. parts_of (f k)) lo hi within)
 
 -- a point on a line of the grid has that line's speed, times the step
-pub at_line : (step k : ℕ) → 0 < step → (f : ℕ → Speed) → straight step (k * step) f ≡ times step (f k)
+pub at_line : (step k : ℕ) → 0 < step → (f : ℕ → Option ℕ) → straight step (k * step) f ≡ times step (f k)
 unfolding straight
 at_line step k some f = rw (mul-div_cancel k some, mul-mod_left k step, sub-zero) (weighed_alone step (f k) (f (k + 1)) some)

@@ -1,10 +1,9 @@
 -- Straight lines over three grids, one within another: when they are missing, what they come to, as a sum too, and what they lie between.
+use Rattle.std.specs.Prelude.{Option, Some, None}
 use mathlib.Core.Path.{◌≡◌, ◌∙◌}
 use Prim.Native.Nat.{ℕ, zero, suc, ◌+◌, ◌*◌, ◌/◌, ◌≤◌, ◌<◌}
 use native.Mathlib.Nat.{mul-pos}
 use native.Mathlib.Omega.{arith}
-use Rattle.speed.specs.declared.Speed.{Speed}
-use Rattle.speed.specs.declared.Speed.TheVariants.{Parts, Missing}
 use Rattle.speed.specs.Lines.{parts_of, straight}
 use Rattle.speed.specs.Weights.{weight, sum}
 use Rattle.speed.specs.Orders.{width_slope_depth}
@@ -18,24 +17,24 @@ both_some (suc a) zero h = absurd (omega arith)
 both_some (suc a) (suc b) h = omega arith
 
 module _ (p x q y r z : ℕ) (some : (0 < p) × (0 < q) × (0 < r)) where
-  module _ (f : ℕ → ℕ → ℕ → Speed) where
-    pub threefold_missing : width_slope_depth p x q y r z f ≡ Missing
-        → (i j k : ℕ) × ((0 < weight p x i * weight q y j * weight r z k) × (f i j k ≡ Missing))
+  module _ (f : ℕ → ℕ → ℕ → Option ℕ) where
+    pub threefold_missing : width_slope_depth p x q y r z f ≡ None
+        → (i j k : ℕ) × ((0 < weight p x i * weight q y j * weight r z k) × (f i j k ≡ None))
     threefold_missing e =
         let (i, a) = straight_missing p x some.0 (λ i. straight q y (λ j. straight r z (f i j))) e in
         let (j, b) = straight_missing q y some.1 (λ j. straight r z (f i j)) a.1 in
         let (k, c) = straight_missing r z some.2 (f i j) b.1 in
         (i, j, k, (mul-pos (mul-pos a.0 b.0) c.0, c.1))
 
-    pub missing_threefold : (i j k : ℕ) → 0 < weight p x i * weight q y j * weight r z k → f i j k ≡ Missing
-        → width_slope_depth p x q y r z f ≡ Missing
+    pub missing_threefold : (i j k : ℕ) → 0 < weight p x i * weight q y j * weight r z k → f i j k ≡ None
+        → width_slope_depth p x q y r z f ≡ None
     missing_threefold i j k h e =
         let (h-ij, h-k) = both_some (weight p x i * weight q y j) (weight r z k) h in
         let (h-i, h-j) = both_some (weight p x i) (weight q y j) h-ij in
         missing_straight p x some.0 (λ i. straight q y (λ j. straight r z (f i j))) i h-i
         (missing_straight q y some.1 (λ j. straight r z (f i j)) j h-j (missing_straight r z some.2 (f i j) k h-k e))
 
-    pub threefold_known : (n : ℕ) → width_slope_depth p x q y r z f ≡ Parts n
+    pub threefold_known : (n : ℕ) → width_slope_depth p x q y r z f ≡ Some n
         → n ≡ line p x (λ i. line q y (λ j. line r z (λ k. parts_of (f i j k))))
     threefold_known =
         straight_from p x some.0 _ _ (λ i h. straight_from q y some.1 _ _ (λ j l. straight_known r z some.2 (f i j)))

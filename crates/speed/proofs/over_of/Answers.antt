@@ -8,5 +8,5 @@ returns-then-divisor-eq0 c = over_none _ _ c.if-divisor-eq0.true
 pub returns-in-Parts : goal.returns-in-Parts
 returns-in-Parts c = rw c.in-Parts.is (over_some _ _ c.if-divisor-eq0.false)
 
-pub returns-in-Missing : goal.returns-in-Missing
-returns-in-Missing c = rw c.in-Missing.is (over_some _ _ c.if-divisor-eq0.false)
+pub returns-in-None : goal.returns-in-None
+returns-in-None c = rw c.in-None.is (over_some _ _ c.if-divisor-eq0.false)

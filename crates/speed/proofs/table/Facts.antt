@@ -1,4 +1,5 @@
 -- What is always true of table 2a. One test of each rule is computed over the whole table and carried to each point.
+use Rattle.std.specs.Prelude.{Option, Some, None}
 use mathlib.Core.Path.{◌≡◌, refl}
 use mathlib.Core.Bool.{Bool, true, false}
 use mathlib.Core.List.{List, []}
@@ -9,24 +10,22 @@ use lib.ListN.{get_or, replicate, get_or-replicate}
 use Rattle.laws.specs.Choice.{ifᵇ◌then◌else◌, ◌≤ᵇ◌}
 use Rattle.laws.specs.Every.{every}
 use Rattle.laws.proofs.Every.{where_true, holds_there, every_at}
-use Rattle.speed.specs.declared.Speed.{Speed}
-use Rattle.speed.specs.declared.Speed.TheVariants.{Parts, Missing}
 use Rattle.speed.specs.Lines.{parts_of}
 use Rattle.speed.proofs.table.Grid.{inside}
 use Rattle.speed.specs.Table.{dash, shallow_row, full_table, outside, full_row, entry, point_of, shallow_point, full_point}
 
 -- a known point of a row stands at one of its depths
-in_row : (row : List ℕ) (k m : ℕ) → point_of row k ≡ Parts m → (4 ≤ k) × (k ≤ 16) × (entry (get_or row (k - 4) 0) ≡ Parts m)
+in_row : (row : List ℕ) (k m : ℕ) → point_of row k ≡ Some m → (4 ≤ k) × (k ≤ 16) × (entry (get_or row (k - 4) 0) ≡ Some m)
 unfolding point_of
 in_row row k m e = go (outside k 4 16) refl e
   where
-    go : (b : Bool) → outside k 4 16 ≡ b → (ifᵇ b then Missing else entry (get_or row (k - 4) 0)) ≡ Parts m
-        → (4 ≤ k) × (k ≤ 16) × (entry (get_or row (k - 4) 0) ≡ Parts m)
+    go : (b : Bool) → outside k 4 16 ≡ b → (ifᵇ b then None else entry (get_or row (k - 4) 0)) ≡ Some m
+        → (4 ≤ k) × (k ≤ 16) × (entry (get_or row (k - 4) 0) ≡ Some m)
     go true o e = let z : ◌≡◌ {A = ℕ} 0 1 = cc in absurd (omega arith)
     go false o e = let there = inside k 4 16 o in (there.from, there.to, e)
 
 -- a row of dashes has none
-all_dashes : (k m : ℕ) → point_of (replicate 13 dash) k ≡ Parts m → ⊥
+all_dashes : (k m : ℕ) → point_of (replicate 13 dash) k ≡ Some m → ⊥
 unfolding entry
 all_dashes k m e =
     let (low, high, known) = in_row (replicate 13 dash) k m e in
@@ -34,28 +33,28 @@ all_dashes k m e =
     omega arith
 
 -- a known point of the full sections is one of the table's widths and slopes
-in_table : (i j k m : ℕ) → full_point i j k ≡ Parts m → (i ≤ 5) × (j ≤ 3) × (k ≤ 16)
+in_table : (i j k m : ℕ) → full_point i j k ≡ Some m → (i ≤ 5) × (j ≤ 3) × (k ≤ 16)
 unfolding full_row
 in_table i j k m e = go (outside i 1 5) (outside j 1 3) refl refl e
   where
     go : (a b : Bool) → outside i 1 5 ≡ a → outside j 1 3 ≡ b
-        → point_of (ifᵇ a then replicate 13 dash else (ifᵇ b then replicate 13 dash else get_or full_table (3 * (i - 1) + (j - 1)) [])) k ≡ Parts m
+        → point_of (ifᵇ a then replicate 13 dash else (ifᵇ b then replicate 13 dash else get_or full_table (3 * (i - 1) + (j - 1)) [])) k ≡ Some m
         → (i ≤ 5) × (j ≤ 3) × (k ≤ 16)
     go true b width slope e = absurd (all_dashes k m e)
     go false true width slope e = absurd (all_dashes k m e)
     go false false width slope e = ((inside i 1 5 width).to, (inside j 1 3 slope).to, (in_row _ k m e).1)
 
 -- a speed is known
-abbrev known : Speed → Bool
-known (Parts n) = true
-known Missing = false
+abbrev known : Option ℕ → Bool
+known (Some n) = true
+known None = false
 
-known_at : (s : Speed) (n : ℕ) → s ≡ Parts n → T (known s)
+known_at : (s : Option ℕ) (n : ℕ) → s ≡ Some n → T (known s)
 known_at s n e = rw e tt
 
-parts_at : (s : Speed) → T (known s) → (n : ℕ) × (s ≡ Parts n)
-parts_at (Parts n) t = (n, refl)
-parts_at Missing t = absurd t
+parts_at : (s : Option ℕ) → T (known s) → (n : ℕ) × (s ≡ Some n)
+parts_at (Some n) t = (n, refl)
+parts_at None t = absurd t
 
 -- a test of each point: of the widths to 5, the slopes to 3 and the depths to 16
 abbrev each_point : (ℕ → ℕ → ℕ → Bool) → Bool
@@ -75,7 +74,7 @@ slower_test : T (each_point slower)
 unfolding slower point_of entry full_row
 slower_test = tt
 
-pub full_no_faster : (i j k m n : ℕ) → full_point i j k ≡ Parts m → shallow_point k ≡ Parts n → m ≤ n
+pub full_no_faster : (i j k m n : ℕ) → full_point i j k ≡ Some m → shallow_point k ≡ Some n → m ≤ n
 unfolding slower
 full_no_faster i j k m n full shallow =
     leb→le m n (rw (full, shallow) at (at_point slower slower_test i j k (in_table i j k m full)))
@@ -90,7 +89,7 @@ rising_test : T (each_point (λ i j k. every 6 (λ i'. every 4 (rising i j k i')
 unfolding rising point_of entry full_row
 rising_test = tt
 
-pub wider_no_slower : (i j k i' j' m n : ℕ) → full_point i j k ≡ Parts m → full_point i' j' k ≡ Parts n → i ≤ i' → j ≤ j' → m ≤ n
+pub wider_no_slower : (i j k i' j' m n : ℕ) → full_point i j k ≡ Some m → full_point i' j' k ≡ Some n → i ≤ i' → j ≤ j' → m ≤ n
 unfolding rising
 wider_no_slower i j k i' j' m n e e' wider flatter =
     let within = in_table i' j' k n e' in
@@ -107,7 +106,7 @@ filled_test : T (each_point (λ i j k. every 17 (filled i j k)))
 unfolding filled point_of entry full_row
 filled_test = tt
 
-pub deeper_is_there : (i j k k' m : ℕ) → full_point i j k ≡ Parts m → k ≤ k' → k' ≤ 16 → (n : ℕ) × (full_point i j k' ≡ Parts n)
+pub deeper_is_there : (i j k k' m : ℕ) → full_point i j k ≡ Some m → k ≤ k' → k' ≤ 16 → (n : ℕ) × (full_point i j k' ≡ Some n)
 unfolding filled
 deeper_is_there i j k k' m e deeper last =
     let from = at_point (λ a b c. every 17 (filled a b c)) filled_test i j k (in_table i j k m e) in
@@ -122,7 +121,7 @@ whole_row_test : T (every 17 whole_row)
 unfolding whole_row point_of entry
 whole_row_test = tt
 
-pub shallow_there : (k : ℕ) → 4 ≤ k → k ≤ 16 → (n : ℕ) × (shallow_point k ≡ Parts n)
+pub shallow_there : (k : ℕ) → 4 ≤ k → k ≤ 16 → (n : ℕ) × (shallow_point k ≡ Some n)
 unfolding whole_row
 shallow_there k first last =
     parts_at (shallow_point k) (holds_there (4 ≤ᵇ k) _ (every_at 17 whole_row whole_row_test k (omega arith)) (le→leb 4 k first))
@@ -134,7 +133,7 @@ faster_test : T (every 17 (λ k. every 17 (faster k)))
 unfolding faster point_of entry
 faster_test = tt
 
-pub shallow_rises : (k k' m n : ℕ) → shallow_point k ≡ Parts m → shallow_point k' ≡ Parts n → k ≤ k' → m ≤ n
+pub shallow_rises : (k k' m n : ℕ) → shallow_point k ≡ Some m → shallow_point k' ≡ Some n → k ≤ k' → m ≤ n
 unfolding faster
 shallow_rises k k' m n e e' deeper =
     let within = in_row shallow_row k' n e' in

@@ -1,4 +1,5 @@
 -- The lines of the table: one that is not outside lies from the first to the last, and what a row and a point are then.
+use Rattle.std.specs.Prelude.{Some, None}
 use mathlib.Core.Path.{◌≡◌, refl}
 use mathlib.Core.Bool.{Bool, true, false, ◌||◌, false≢true}
 use mathlib.Core.List.{List, []}
@@ -8,7 +9,6 @@ use borrow.Author.Tests.{ltb-false, eq-eqb, ne_eqb}
 use lib.ListN.{get_or, replicate}
 use Rattle.laws.specs.Choice.{◌<ᵇ◌}
 use Rattle.speed.specs.Table.{dash, full_table, outside, full_row, entry, point_of}
-use Rattle.speed.specs.declared.Speed.TheVariants.{Parts, Missing}
 
 -- the line is from the first to the last
 pub record Inside (line first last : ℕ) : Type 0 where
@@ -38,17 +38,17 @@ module _ (width slope : ℕ) where
   in_table d e = rw (d, e)
 
 -- what stands in the table, as a speed
-pub at_dash : (figure : ℕ) → figure ≡ dash → Missing ≡ entry figure
+pub at_dash : (figure : ℕ) → figure ≡ dash → None ≡ entry figure
 unfolding entry
 at_dash figure e = rw (eq-eqb figure dash e)
 
-pub at_figure : (figure : ℕ) → figure ≢ dash → Parts figure ≡ entry figure
+pub at_figure : (figure : ℕ) → figure ≢ dash → Some figure ≡ entry figure
 unfolding entry
 at_figure figure other = rw (ne_eqb figure dash other)
 
 -- the points of a row
 module _ (row : List ℕ) (metres : ℕ) where
-  pub no_depth : outside metres 4 16 ≡ true → Missing ≡ point_of row metres
+  pub no_depth : outside metres 4 16 ≡ true → None ≡ point_of row metres
   unfolding point_of
   no_depth e = rw e
 

@@ -1,5 +1,6 @@
 -- The numbers that turn a line away: each is told exactly when it holds and none before it does.
 -- The tests of a line are a chain; each test is led back to what the definition says of the line.
+use Rattle.std.specs.Prelude.{Result, Ok, Err}
 use mathlib.Core.Path.{◌≡◌, refl, sym, ◌∙◌}
 use mathlib.Core.Bool.{Bool, true, false, ◌||◌, ◌&&◌, not, or-true, beq}
 use mathlib.Core.List.{List, [], ◌∷◌}
@@ -20,8 +21,7 @@ use Rattle.sheet.specs.declared.Standing.TheVariants.{Fine, Outside, Disagrees a
 use Rattle.typed.specs.Rows.{count, level_row, row_at, values_of}
 use Rattle.typed.specs.Lines.{front_text, line_text}
 use Rattle.typed.specs.Reading.{stands, entry_of, named, row_named}
-use Rattle.typed.specs.declared.Entry.{Entry}
-use Rattle.typed.specs.declared.Entry.TheVariants.{Figure, NoName as NameMissing, NoFigure as FigureMissing, NoUnit as UnitMissing}
+use Rattle.typed.specs.declared.EntryFault.TheVariants.{NoName as NameMissing, NoFigure as FigureMissing, NoUnit as UnitMissing}
 use Rattle.typed.proofs.Promises.{never_two_names, row_named_exactly, no_row_named_exactly, row_named_within, no_name, no_figure, no_unit, figure}
 use Rattle.typed.proofs.meaning.Ways.{row_front}
 use Rattle.texts.specs.Cutting.{begins_sheet}
@@ -33,6 +33,7 @@ use Rattle.texts.specs.declared.LineFault.TheVariants.{NoName, Twice, Misplaced,
 use Rattle.texts.specs.declared.Stage.TheVariants.{Between, InRow, Skipping}
 use Rattle.texts.proofs.meaning.Filling.{RowCase, before_level, at_level, behind_level, row_case, field_of_lem, stored_before_level, source_stored, level_stored, last_stored}
 use Rattle.texts.proofs.meaning.Sound.{begin_step_lem, other_step_lem}
+use Rattle.typed.specs.declared.EntryFault.{EntryFault}
 
 -- outside two values, as it is tested
 outside_test : (n low high : ℕ) → (((n <ᵇ low) || (high <ᵇ n)) ≡ true → (n < low) ⊎ (high < n)) × (((n <ᵇ low) || (high <ᵇ n)) ≡ false → (n < low) ⊎ (high < n) → ⊥)
@@ -202,16 +203,16 @@ line_front k n = row_front (row_at k) n
 
 module _ (figures : List ℕ) (k : ℕ) (line : List ℕ) (h : k < count) (long : length figures ≡ field_count) where
   -- a line with the row's name
-  behind_told : named line k ≡ true → (e : Entry) → entry_of k line ≡ e → Told telling (behind_rows k figures line) (row_step_by e figures k line).event
-  behind_told own (Figure n) e =
+  behind_told : named line k ≡ true → (e : Result ℕ EntryFault) → entry_of k line ≡ e → Told telling (behind_rows k figures line) (row_step_by e figures k line).event
+  behind_told own (Ok n) e =
       let f = (figure k line n).0 e in
       let same : n ≡ figure_at k line = f.0 in
       let is : line ≡ line_text k (figure_at k line) = rw (← same) f.1 in
       past (λ p. never_both _ (rw (← is) at (line_front k (figure_at k line))) p)
       (past (λ d. d is) (rw same (accepted_told figures k h long (figure_at k line))))
-  behind_told own NameMissing e = absurd (never_both _ own ((no_name k line).0 e))
-  behind_told own FigureMissing e = stop ((no_figure k line).0 e).1 (refl, tt)
-  behind_told own UnitMissing e = let u = (no_unit k line).0 e in past (λ p. never_both _ u.0 p) (stop u.1 (refl, tt))
+  behind_told own (Err NameMissing) e = absurd (never_both _ own ((no_name k line).0 e))
+  behind_told own (Err FigureMissing) e = stop ((no_figure k line).0 e).1 (refl, tt)
+  behind_told own (Err UnitMissing) e = let u = (no_unit k line).0 e in past (λ p. never_both _ u.0 p) (stop u.1 (refl, tt))
 
   -- a line without it
   no_other : named line k ≡ true → (i : ℕ) → i < count → i ≢ k → named line i ≡ true → ⊥
@@ -291,12 +292,12 @@ module _ (figures : List ℕ) (k : ℕ) (line : List ℕ) where
       go true = inl refl
       go false = inl refl
 
-  row_way : (e : Entry) → (event_number (row_step_by e figures k line).event ≡ 0) ⊎ RefusedAt k (row_step_by e figures k line)
+  row_way : (e : Result ℕ EntryFault) → (event_number (row_step_by e figures k line).event ≡ 0) ⊎ RefusedAt k (row_step_by e figures k line)
   unfolding accepted_in
-  row_way (Figure n) = accepted_way (standing_of (stored figures k n) (field_of k)) (stored figures k n)
-  row_way NameMissing = inr (record { fault = name_fault k line; told = refl; then_skips = refl })
-  row_way FigureMissing = inr (record { fault = NoFigure; told = refl; then_skips = refl })
-  row_way UnitMissing = inr (record { fault = NoUnit; told = refl; then_skips = refl })
+  row_way (Ok n) = accepted_way (standing_of (stored figures k n) (field_of k)) (stored figures k n)
+  row_way (Err NameMissing) = inr (record { fault = name_fault k line; told = refl; then_skips = refl })
+  row_way (Err FigureMissing) = inr (record { fault = NoFigure; told = refl; then_skips = refl })
+  row_way (Err UnitMissing) = inr (record { fault = NoUnit; told = refl; then_skips = refl })
 
   pub refused_once : begins_sheet line ≡ false
       → (event_number (step_of (InRow k) figures line).event ≡ 0) ⊎ RefusedAt k (step_of (InRow k) figures line)

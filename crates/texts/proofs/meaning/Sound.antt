@@ -1,5 +1,6 @@
 -- The kept lines of a text without a fault are the lines of its sheets.
 -- By going down the lines: the figures of a sheet are filled row by row, and no later row changes those before.
+use Rattle.std.specs.Prelude.{Result, Ok, Err}
 use mathlib.Core.Path.{◌≡◌, refl, ap, ◌∙◌}
 use mathlib.Core.Bool.{Bool, true, false}
 use mathlib.Core.List.{List, [], ◌∷◌, ◌++◌}
@@ -16,8 +17,7 @@ use Rattle.sheet.specs.declared.Standing.TheVariants.{Fine, Outside, Disagrees a
 use Rattle.typed.specs.Rows.{count}
 use Rattle.typed.specs.Lines.{line_text}
 use Rattle.typed.specs.Reading.{entry_of}
-use Rattle.typed.specs.declared.Entry.{Entry}
-use Rattle.typed.specs.declared.Entry.TheVariants.{Figure, NoName as NameMissing, NoFigure as FigureMissing, NoUnit as UnitMissing}
+use Rattle.typed.specs.declared.EntryFault.TheVariants.{NoName as NameMissing, NoFigure as FigureMissing, NoUnit as UnitMissing}
 use Rattle.typed.proofs.Promises.{figure_of_line}
 use Rattle.texts.specs.Cutting.{begins_sheet}
 use Rattle.texts.specs.Shown.{row_figure}
@@ -30,6 +30,7 @@ use Rattle.texts.specs.declared.Stage.TheVariants.{Between, InRow, Skipping}
 use Rattle.texts.specs.declared.steps.Step.{Step}
 use Rattle.texts.proofs.meaning.Filling.{filled, field_of_lem, Agree, stored_length, stored_before, stored_figure, stored_fine, row_same, fine_not_bad, none_bad_first}
 use Rattle.texts.proofs.meaning.Keeping.{NoFault, Clear, sheets_from, sheets_of_text, faultless_clear}
+use Rattle.typed.specs.declared.EntryFault.{EntryFault}
 
 -- a line that begins a sheet, and any other
 pub begin_step_lem : (stage : Stage) (figures line : List ℕ) → begins_sheet line ≡ true → step_of stage figures line ≡ step (InRow 0) figures (missing_at stage)
@@ -52,7 +53,7 @@ pub record RowRead (figures : List ℕ) (k : ℕ) (line : List ℕ) (s : Step) :
   pub goes_on : s ≡ row_done (stored figures k figure) k
 
 module _ (figures : List ℕ) (k : ℕ) (line : List ℕ) (h : k < count) where
-  accepted : (n : ℕ) → entry_of k line ≡ Figure n → NoFault (accepted_in (stored figures k n) k).event
+  accepted : (n : ℕ) → entry_of k line ≡ Ok n → NoFault (accepted_in (stored figures k n) k).event
       → RowRead figures k line (accepted_in (stored figures k n) k)
   unfolding accepted_in
   accepted n said = go (standing_of (stored figures k n) (field_of k)) refl
@@ -69,11 +70,11 @@ module _ (figures : List ℕ) (k : ℕ) (line : List ℕ) (h : k < count) where
             goes_on = refl;
           }
 
-  entered : (e : Entry) → entry_of k line ≡ e → NoFault (row_step_by e figures k line).event → RowRead figures k line (row_step_by e figures k line)
-  entered (Figure n) said none = accepted n said none
-  entered NameMissing said none = absurd none
-  entered FigureMissing said none = absurd none
-  entered UnitMissing said none = absurd none
+  entered : (e : Result ℕ EntryFault) → entry_of k line ≡ e → NoFault (row_step_by e figures k line).event → RowRead figures k line (row_step_by e figures k line)
+  entered (Ok n) said none = accepted n said none
+  entered (Err NameMissing) said none = absurd none
+  entered (Err FigureMissing) said none = absurd none
+  entered (Err UnitMissing) said none = absurd none
 
   row_read : NoFault (step_of (InRow k) figures line).event → RowRead figures k line (step_of (InRow k) figures line)
   unfolding row_step

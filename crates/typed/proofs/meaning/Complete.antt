@@ -1,5 +1,6 @@
 -- The line of a figure says that figure, so no two figures of a row have one line.
 -- Each row is tested by computing: its numbers are short enough to be read, and its words can be told apart.
+use Rattle.std.specs.Prelude.{Ok, Err}
 use mathlib.Core.Path.{◌≡◌, refl, ap, sym, ◌∙◌}
 use mathlib.Core.Bool.{Bool, true, false, not, ◌&&◌}
 use mathlib.Core.List.{List, ◌++◌, flatten}
@@ -17,7 +18,7 @@ use Rattle.sheet.specs.Fields.{fields, field_at, least, greatest, range_of}
 use Rattle.typed.specs.Rows.{count, rows, row_at, values_of}
 use Rattle.typed.specs.Lines.{token, tenths_text, hundredths_text, level_text, word_text, figure_by, figure_text, behind, unit_by, unit_text, name_text, front_text, line_text, blank_row, blank_text}
 use Rattle.typed.specs.Reading.{stands, in_number, digit_on, digits_read, below_zero, level_guess, word_stands, word_guess, guess_by, guessed, entry_of, named, row_named}
-use Rattle.typed.specs.declared.Entry.TheVariants.{Figure, NoFigure}
+use Rattle.typed.specs.declared.EntryFault.TheVariants.{NoFigure}
 use Rattle.typed.specs.declared.Kind.{Kind}
 use Rattle.typed.specs.declared.Kind.TheVariants.{Whole, Tenths, Hundredths, Words, Level}
 use Rattle.typed.proofs.meaning.Fronts.{differs}
@@ -55,7 +56,7 @@ module _ (i most n : ℕ) (t : T (tells (row_at i).1 (row_at i).3 most)) (h : n 
       let r = row_at i in
       rw (line_parts i n, drop-append_seam (name_text r) (rest i n)) (figure_back r.1 r.3 r.2 most n t h)
 
-  entry_back : entry_of i (line_text i n) ≡ Figure n
+  entry_back : entry_of i (line_text i n) ≡ Ok n
   entry_back = (figure_exactly i (line_text i n) n).1 (sym guess_back, refl)
 
 -- the rows' numbers and words up to their greatest figures
@@ -66,7 +67,7 @@ rows_test : T (every count row_tells)
 unfolding row_tells row_at rows flatten values_of range_of least greatest field_at fields word_text token differs
 rows_test = tt
 
-pub complete : (i n : ℕ) → i < count → n ≤ (values_of i).greatest → entry_of i (line_text i n) ≡ Figure n
+pub complete : (i n : ℕ) → i < count → n ≤ (values_of i).greatest → entry_of i (line_text i n) ≡ Ok n
 unfolding row_tells
 complete i n h l = entry_back i (values_of i).greatest n (every_at count row_tells rows_test i h) l
 
@@ -78,10 +79,10 @@ number_tells Hundredths words n d h = lt→ltb n readable h
 number_tells Words words n d h = absurd (d refl)
 number_tells Level words n d h = lt→ltb n readable h
 
-pub complete_number : (i n : ℕ) → (row_at i).1 ≢ Words → n < readable → entry_of i (line_text i n) ≡ Figure n
+pub complete_number : (i n : ℕ) → (row_at i).1 ≢ Words → n < readable → entry_of i (line_text i n) ≡ Ok n
 complete_number i n d h = entry_back i n n (number_tells (row_at i).1 (row_at i).3 n d h) (omega arith)
 
-pub exactly : (i n : ℕ) (line : List ℕ) → i < count → n ≤ (values_of i).greatest → (entry_of i line ≡ Figure n) ↔ (line ≡ line_text i n)
+pub exactly : (i n : ℕ) (line : List ℕ) → i < count → n ≤ (values_of i).greatest → (entry_of i line ≡ Ok n) ↔ (line ≡ line_text i n)
 exactly i n line h l = (sound i line n, λ (e : line ≡ line_text i n). ap (entry_of i) e ∙ complete i n h l)
 
 pub one_figure : (i m n : ℕ) → i < count → m ≤ (values_of i).greatest → n ≤ (values_of i).greatest → line_text i m ≡ line_text i n → m ≡ n
@@ -104,7 +105,7 @@ left_blank_test : T (every count left_blank)
 unfolding left_blank named stands guessed digits_read in_number digit_on level_guess below_zero word_guess word_stands first_from blank_text blank_row front_text name_text figure_text unit_text behind token count_text digits digits_within tenths_text hundredths_text level_text word_text row_at rows flatten
 left_blank_test = tt
 
-pub blank_no_figure : (i : ℕ) → i < count → entry_of i (blank_text i) ≡ NoFigure
+pub blank_no_figure : (i : ℕ) → i < count → entry_of i (blank_text i) ≡ (Err NoFigure)
 unfolding left_blank
 blank_no_figure i h =
     let t = every_at count left_blank left_blank_test i h in

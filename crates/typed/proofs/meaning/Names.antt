@@ -1,5 +1,6 @@
 -- The names of the rows: no two stand at the front of one line, so a line has one row's name, and no line of a row begins a sheet.
 -- One test of each rule is computed over the table and carried to each row.
+use Rattle.std.specs.Prelude.{Err}
 use mathlib.Core.Path.{◌≡◌, refl, ap, sym, ◌∙◌}
 use mathlib.Core.Bool.{Bool, true, false, not}
 use mathlib.Core.List.{List, [], ◌∷◌, ◌++◌, append_assoc}
@@ -17,7 +18,7 @@ use Rattle.lines.specs.Lines.{space}
 use Rattle.typed.specs.Rows.{bytes_of, count, rows, row_at}
 use Rattle.typed.specs.Lines.{token, name_text, figure_text, front_text, unit_text, row_text, line_text}
 use Rattle.typed.specs.Reading.{stands, entry_of, named, row_named}
-use Rattle.typed.specs.declared.Entry.TheVariants.{NoName}
+use Rattle.typed.specs.declared.EntryFault.TheVariants.{NoName}
 use Rattle.typed.proofs.meaning.Fronts.{differs, differ_stands, front_stands, longer_fails, not_both}
 use Rattle.typed.proofs.meaning.Ways.{no_name_exactly}
 
@@ -117,13 +118,13 @@ module _ (line : List ℕ) where
   no_row_exactly = (has_no_name, no_row)
 
 -- so no name is told of a line exactly when another row, or none, is its
-pub no_name_row : (i : ℕ) (line : List ℕ) → i < count → (entry_of i line ≡ NoName) ↔ (row_named line ≢ i)
+pub no_name_row : (i : ℕ) (line : List ℕ) → i < count → (entry_of i line ≡ (Err NoName)) ↔ (row_named line ≢ i)
 no_name_row i line h = (λ e r. other ((no_name_exactly i line).0 e) ((row_exactly line i h).0 r), λ d. go (named line i) refl d)
   where
     other : named line i ≡ false → named line i ≡ true → ⊥
     other p q = let z : ◌≡◌ {A = ℕ} 0 1 = cc in omega arith
 
-    go : (b : Bool) → named line i ≡ b → row_named line ≢ i → entry_of i line ≡ NoName
+    go : (b : Bool) → named line i ≡ b → row_named line ≢ i → entry_of i line ≡ (Err NoName)
     go true e d = absurd (d (named_row line i h e))
     go false e d = (no_name_exactly i line).1 e
 

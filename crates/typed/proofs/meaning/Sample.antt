@@ -1,4 +1,5 @@
 -- The lines of S, what is expected in each row and the empty form, computed over the whole table; and some lines more.
+use Rattle.std.specs.Prelude.{Err}
 use mathlib.Core.Path.{◌≡◌, refl, ap, ◌∙◌}
 use mathlib.Core.List.{List, [], ◌∷◌, ◌++◌, map, flatten, map-append}
 use Prim.Native.Nat.{ℕ, ◌/◌, ◌%◌, ◌≤◌}
@@ -11,7 +12,7 @@ use Rattle.sheet.specs.Sheets.{bed_figure, figures_of}
 use Rattle.typed.specs.Rows.{bytes_of, rows, row_at, values_of}
 use Rattle.typed.specs.Lines.{token, tenths_text, hundredths_text, level_text, word_text, figure_text, behind, unit_text, name_text, front_text, row_text, line_text, blank_row, blank_text, words_from, span_text, lines_text, expected_text}
 use Rattle.typed.specs.Reading.{stands, in_number, digit_on, digits_read, guessed, entry_on, entry_by, entry_of}
-use Rattle.typed.specs.declared.Entry.TheVariants.{NoFigure}
+use Rattle.typed.specs.declared.EntryFault.TheVariants.{NoFigure}
 use Rattle.typed.proofs.meaning.Starred.{figures_of_s, texts_from, in_each_row, lines_of_s, expected_texts, blank_lines}
 
 pub lines_s : in_each_row (λ i. line_text i (get_or figures_of_s i 0)) ≡ map bytes_of lines_of_s
@@ -120,6 +121,6 @@ unfolding line_text row_text front_text name_text figure_text unit_text behind t
 word_line = refl
 
 -- the definition's line that is turned away: tenths without their digit
-pub no_tenths : entry_of 16 (bytes_of "cross-current 1 kn") ≡ NoFigure
+pub no_tenths : entry_of 16 (bytes_of "cross-current 1 kn") ≡ (Err NoFigure)
 unfolding entry_of entry_by entry_on guessed digits_read in_number digit_on stands front_text name_text figure_text token count_text digits digits_within tenths_text row_at rows flatten
 no_tenths = refl

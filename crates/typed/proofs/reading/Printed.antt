@@ -1,4 +1,5 @@
 -- A text put at the front of an array is what stands there: the words that are looked for, and what a line says of a row.
+use Rattle.std.specs.Prelude.{Ok, Err}
 use mathlib.Core.Path.{◌≡◌, sym, ◌∙◌}
 use mathlib.Core.Bool.{Bool, true, false}
 use mathlib.Core.List.{List}
@@ -11,7 +12,7 @@ use Rattle.lines.specs.Lines.{Put}
 use Rattle.lines.proofs.putting.Placing.{head_stands, put_on}
 use Rattle.typed.specs.Lines.{token, word_text, figure_text, unit_text, name_text, front_text, row_text}
 use Rattle.typed.specs.Reading.{stands, same, word_stands, guessed, entry_on, entry_by}
-use Rattle.typed.specs.declared.Entry.TheVariants.{Figure, NoName, NoFigure, NoUnit}
+use Rattle.typed.specs.declared.EntryFault.TheVariants.{NoName, NoFigure, NoUnit}
 use Rattle.typed.specs.declared.table.Row.{Row}
 use Rattle.typed.proofs.reading.Standing.{no_longer}
 
@@ -42,7 +43,7 @@ module _ (row : Row) (line : List ℕ) {zeros named : List ℕ} {name : ℕ} (p 
   name_asked : there ≡ stands (name_text row) line
   name_asked = rw (front_is p held) at asked
 
-  pub no_name : there ≡ false → NoName ≡ entry_by row line
+  pub no_name : there ≡ false → (Err NoName) ≡ entry_by row line
   unfolding entry_by
   no_name e = rw (sym name_asked ∙ e)
 
@@ -68,7 +69,7 @@ module _ (row : Row) (line : List ℕ) {zeros named : List ℕ} {name : ℕ} (p 
       front_asked : there₁ ≡ stands (front_text row n) line
       front_asked = rw (front_is front_put held₁) at asked₁
 
-      pub no_figure : there₁ ≡ false → NoFigure ≡ entry_by row line
+      pub no_figure : there₁ ≡ false → (Err NoFigure) ≡ entry_by row line
       unfolding entry_on
       no_figure e = rw (← entry_on_lem, sym front_asked ∙ e)
 
@@ -82,10 +83,10 @@ module _ (row : Row) (line : List ℕ) {zeros named : List ℕ} {name : ℕ} (p 
         row_asked : there₂ ≡ same (row_text row n) line
         row_asked = rw (front_is row_put held₂) at asked₂
 
-        pub no_unit : there₂ ≡ false → NoUnit ≡ entry_by row line
+        pub no_unit : there₂ ≡ false → (Err NoUnit) ≡ entry_by row line
         unfolding entry_on
         no_unit e = rw (← entry_on_lem, sym front_asked ∙ has₁, sym row_asked ∙ e)
 
-        pub figure_read : there₂ ≡ true → Figure n ≡ entry_by row line
+        pub figure_read : there₂ ≡ true → Ok n ≡ entry_by row line
         unfolding entry_on
         figure_read e = rw (← entry_on_lem, sym front_asked ∙ has₁, sym row_asked ∙ e)

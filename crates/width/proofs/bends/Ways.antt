@@ -1,4 +1,5 @@
 -- The ways out of a bend: each by the tests that lead to it.
+use Rattle.std.specs.Prelude.{Ok, Err}
 use mathlib.Core.Path.{◌≡◌, refl}
 use mathlib.Core.Bool.{Bool, true, false}
 use Prim.Native.Nat.{ℕ, ◌*◌, ◌≤◌, ◌<◌}
@@ -9,7 +10,7 @@ use lib.Dec.{ltb}
 use Rattle.laws.specs.Choice.{ifᵇ◌then◌else◌}
 use Rattle.lanes.specs.declared.Lanes.{Lanes}
 use Rattle.width.specs.Bends.{least_lengths, widening_of, bend_of, LongEnough}
-use Rattle.width.specs.declared.Bend.TheVariants.{Widening, TooTight}
+use Rattle.width.specs.declared.WidthFault.TheVariants.{BendTooTight}
 
 -- the least radius is 3 to 10 lengths
 pub lengths_within : (turn : ℕ) → (3 ≤ least_lengths turn) × (least_lengths turn ≤ 10)
@@ -23,17 +24,17 @@ lengths_within turn = go (ltb turn 25) (ltb turn 35) (ltb turn 55)
     go false false true = omega arith
     go false false false = omega arith
 
-pub straight_always : (radius length knots : ℕ) (lanes : Lanes) → bend_of 0 radius length knots lanes ≡ Widening 0
+pub straight_always : (radius length knots : ℕ) (lanes : Lanes) → bend_of 0 radius length knots lanes ≡ Ok 0
 unfolding bend_of
 straight_always radius length knots lanes = refl
 
 module _ (turn radius length knots : ℕ) (lanes : Lanes) where
-  pub straight : turn ≡ 0 → Widening 0 ≡ bend_of turn radius length knots lanes
+  pub straight : turn ≡ 0 → Ok 0 ≡ bend_of turn radius length knots lanes
   unfolding bend_of
   straight e = rw (eq-eqb turn 0 e)
 
   module _ (bent : turn ≡ 0 → ⊥) (lengths : ℕ) (e : lengths ≡ least_lengths turn) where
-    pub tight : 100 * radius < lengths * length → TooTight ≡ bend_of turn radius length knots lanes
+    pub tight : 100 * radius < lengths * length → (Err BendTooTight) ≡ bend_of turn radius length knots lanes
     unfolding bend_of
     tight h = rw (ne_eqb turn 0 bent, ← e, lt-ltb (100 * radius) (lengths * length) h)
 
@@ -45,11 +46,11 @@ module _ (turn radius length knots : ℕ) (lanes : Lanes) where
           record { some = omega arith; three = omega arith }
 
       pub widened : 100 * radius < 10 * length → (cm : ℕ) → cm ≡ widening_of turn radius length knots lanes
-          → Widening cm ≡ bend_of turn radius length knots lanes
+          → Ok cm ≡ bend_of turn radius length knots lanes
       unfolding bend_of
       widened under cm w =
           rw (ne_eqb turn 0 bent, ← e, le-ltb (100 * radius) (lengths * length) h, lt-ltb (100 * radius) (10 * length) under, w)
 
-      pub wide : 10 * length ≤ 100 * radius → Widening 0 ≡ bend_of turn radius length knots lanes
+      pub wide : 10 * length ≤ 100 * radius → Ok 0 ≡ bend_of turn radius length knots lanes
       unfolding bend_of
       wide over = rw (ne_eqb turn 0 bent, ← e, le-ltb (100 * radius) (lengths * length) h, le-ltb (100 * radius) (10 * length) over)

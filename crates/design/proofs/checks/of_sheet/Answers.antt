@@ -11,16 +11,16 @@ returns-then-sheet c =
     let sheet = c.args.sheet in
     rw (lt-ltb sheet.length (3 * sheet.beam) c.if-sheet.true)
 
-pub returns-in-Found : goal.returns-in-Found
+pub returns-in-Ok : goal.returns-in-Ok
 unfolding of_sheet
-returns-in-Found c =
+returns-in-Ok c =
     let sheet = c.args.sheet in
     rw (le-ltb sheet.length (3 * sheet.beam) c.if-sheet.false)
-    (c.at_level.ensures ∙ ap (by_level sheet) (sym c.in-Found.is ∙ c.level_for-level.ensures))
+    (c.at_level.ensures ∙ ap (by_level sheet) (sym c.in-Ok.is ∙ c.level_for-level.ensures))
 
-pub returns-in-NoLevel : goal.returns-in-NoLevel
+pub returns-in-Err : goal.returns-in-Err
 unfolding of_sheet
-returns-in-NoLevel c =
+returns-in-Err c =
     let sheet = c.args.sheet in
     rw (le-ltb sheet.length (3 * sheet.beam) c.if-sheet.false)
-    (ap (by_level sheet) (sym c.in-NoLevel.is ∙ c.level_for-level.ensures))
+    (ap (by_level sheet) (sym c.in-Err.is ∙ c.level_for-level.ensures))

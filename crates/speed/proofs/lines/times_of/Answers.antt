@@ -6,8 +6,8 @@ use Rattle.speed.proofs.lines.times_of.Goals as goal
 
 pub overflow_mul-result : goal.overflow_mul-result
 overflow_mul-result c =
-    let small : c.in-Parts.parts < 2 ^ 29 = rw c.in-Parts.is at c.requires.1 in
-    record { fits = omega (arith, product_lt 16 29 {a = c.args.weight} {b = c.in-Parts.parts} c.requires.0 small) }
+    let small : c.in-Some.parts < 2 ^ 29 = rw c.in-Some.is at c.requires.1 in
+    record { fits = omega (arith, product_lt 16 29 {a = c.args.weight} {b = c.in-Some.parts} c.requires.0 small) }
 
-pub returns-in-Parts : goal.returns-in-Parts
-returns-in-Parts c = rw c.in-Parts.is
+pub returns-in-Some : goal.returns-in-Some
+returns-in-Some c = rw c.in-Some.is

@@ -2,18 +2,18 @@
 use Rattle.texts.specs.Steps.{row_step}
 use Rattle.texts.proofs.steps.row_step.Goals as goal
 
-pub returns-in-Figure : goal.returns-in-Figure
+pub returns-in-Ok : goal.returns-in-Ok
 unfolding row_step
-returns-in-Figure c = rw (← c.read_line-entry.ensures, c.in-Figure.is, ← c.with_figure.ensures) c.accepted_in.ensures
+returns-in-Ok c = rw (← c.read_line-entry.ensures, c.in-Ok.is, ← c.with_figure.ensures) c.accepted_in.ensures
 
-pub returns-in-NoName : goal.returns-in-NoName
+pub returns-in-Err-NoName : goal.returns-in-Err-NoName
 unfolding row_step
-returns-in-NoName c = rw (← c.read_line-entry.ensures, c.in-NoName.is, ← c.name_fault.ensures) c.refused_by.ensures
+returns-in-Err-NoName c = rw (← c.read_line-entry.ensures, c.in-Err-NoName.is, ← c.name_fault.ensures) c.refused_by.ensures
 
-pub returns-in-NoFigure : goal.returns-in-NoFigure
+pub returns-in-Err-NoFigure : goal.returns-in-Err-NoFigure
 unfolding row_step
-returns-in-NoFigure c = rw (← c.read_line-entry.ensures, c.in-NoFigure.is) c.refused_by-in-NoFigure.ensures
+returns-in-Err-NoFigure c = rw (← c.read_line-entry.ensures, c.in-Err-NoFigure.is) c.refused_by-in-Err-NoFigure.ensures
 
-pub returns-in-NoUnit : goal.returns-in-NoUnit
+pub returns-in-Err-NoUnit : goal.returns-in-Err-NoUnit
 unfolding row_step
-returns-in-NoUnit c = rw (← c.read_line-entry.ensures, c.in-NoUnit.is) c.refused_by-in-NoUnit.ensures
+returns-in-Err-NoUnit c = rw (← c.read_line-entry.ensures, c.in-Err-NoUnit.is) c.refused_by-in-Err-NoUnit.ensures

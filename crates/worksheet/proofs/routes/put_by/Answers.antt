@@ -2,5 +2,5 @@
 use native.Mathlib.Omega.{arith}
 use Rattle.worksheet.proofs.routes.put_by.Goals as goal
 
-pub returns-in-Refused : goal.returns-in-Refused
-returns-in-Refused c = rw c.in-Refused.is (rw (c.two.ensures, c.small.ensures, c.code.ensures, c.in-Refused.is) at c.put.ensures.0, omega (arith, c.put.ensures.1))
+pub returns-in-Err : goal.returns-in-Err
+returns-in-Err c = rw c.in-Err.is (rw (c.two.ensures, c.small.ensures, c.code.ensures, c.in-Err.is) at c.put.ensures.0, omega (arith, c.put.ensures.1))
