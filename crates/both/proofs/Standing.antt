@@ -1,5 +1,5 @@
 -- Where a design stands to the depth of its sheet: what it has of a cut, and why there is none. By the checks in their order.
-use Rattle.std.specs.Prelude.{Unit, tt, Result, Ok, Err}
+use Rattle.std.specs.Prelude.{Result, Ok, Err}
 use mathlib.Core.Path.{◌≡◌, refl}
 use mathlib.Core.Bool.{Bool, true, false}
 use mathlib.Core.List.{List}

@@ -1,7 +1,7 @@
 -- What a design promises, demand by demand, then the numbers that turn a sheet away (sections 0, 8, 9 and 11); each is cited from its proof.
 -- `design_of` is what `design` ensures, `design_at` what `design_at` does and `numbers_of` what `numbers` does; each of `bytes` is a byte, as `Bytes`
 -- says.
-use Rattle.std.specs.Prelude.{tt, Result, Ok, Err}
+use Rattle.std.specs.Prelude.{Result, Ok, Err}
 use mathlib.Core.Path.{◌≡◌, refl}
 use mathlib.Core.List.{List, [], ◌∷◌, map}
 use mathlib.Core.Logic.{◌↔◌, ◌≢◌, ◌⊎◌}

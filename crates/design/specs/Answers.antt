@@ -1,5 +1,5 @@
 -- What the figures of a sheet are (sections 3 to 7), the section whose critical speed they ask for (section 13), and how they were worked.
-use Rattle.std.specs.Prelude.{◌≡◌, ℕ, pos, length, tt, Result, Ok}
+use Rattle.std.specs.Prelude.{◌≡◌, ℕ, pos, length, Result, Ok}
 use Rattle.laws.specs.Extremes.{Least}
 use Rattle.datum.specs.Datum.{datum_depth}
 use Rattle.datum.specs.declared.Level.{Level}

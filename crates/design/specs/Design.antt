@@ -1,7 +1,7 @@
 -- A design: the checks of section 8 in their order, and the figures of a sheet that passes them, room by room.
 -- What it means stands beside it, with no word of a check: `Refusals.antt` has the row of each number, `Answers.antt` what the figures are,
 -- `Harder.antt` demand 3.
-use Rattle.std.specs.Prelude.{ℕ, ◌*◌, List, pos, Unit, tt, Result, Ok, Err}
+use Rattle.std.specs.Prelude.{ℕ, ◌*◌, List, pos, Result, Ok, Err}
 use Rattle.laws.specs.Choice.{ifᵇ◌then◌else◌, ◌<ᵇ◌}
 use Rattle.datum.specs.Datum.{natural_depth, datum_depth}
 use Rattle.datum.specs.declared.Level.{Level}

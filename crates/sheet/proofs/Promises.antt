@@ -1,5 +1,5 @@
 -- What the sheet promises, in the definition's words (sections 1 and 8). Each proof stands where it is cited.
-use Rattle.std.specs.Prelude.{Unit, tt, Result, Ok}
+use Rattle.std.specs.Prelude.{Result, Ok}
 use mathlib.Core.Path.{◌≡◌}
 use mathlib.Core.List.{List}
 use mathlib.Core.Logic.{◌↔◌, ◌≢◌}

@@ -1,5 +1,5 @@
 -- The rows of section 8 that reading and writing check, and the number and the field of each fault.
-use Rattle.std.specs.Prelude.{List, [], ◌∷◌, ◌≢◌, ℕ, ◌<◌, length, Unit, tt, Result, Ok, Err}
+use Rattle.std.specs.Prelude.{List, [], ◌∷◌, ◌≢◌, ℕ, ◌<◌, length, Result, Ok, Err}
 use Rattle.laws.specs.Rows.{Row, ◌when◌}
 use Rattle.sheet.specs.Fields.{Bad}
 use Rattle.sheet.specs.Packing.{size, groups_of, SpareSet}

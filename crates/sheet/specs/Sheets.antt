@@ -1,5 +1,5 @@
 -- The sheet that bytes are read as, and the bytes that a sheet is written in (sections 1.3 and 1.4).
-use Rattle.std.specs.Prelude.{ℕ, List, [], ◌∷◌, ◌++◌, ◌≡◌, ℤ, pos, negsuc, length, drop, Unit, tt, Result, Ok, Err}
+use Rattle.std.specs.Prelude.{ℕ, List, [], ◌∷◌, ◌++◌, ◌≡◌, ℤ, pos, negsuc, length, drop, Result, Ok, Err}
 use Rattle.datum.specs.Datum.{below_chart}
 use Rattle.datum.specs.declared.BelowChart.{BelowChart}
 use Rattle.laws.specs.Choice.{ifᵇ◌then◌else◌, ◌<ᵇ◌, ◌=ᵇ◌}

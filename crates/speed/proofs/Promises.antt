@@ -1,6 +1,6 @@
 -- What the critical speed promises (sections 8 and 13), each cited from its proof. `shallow_speed`, `full_speed`, `critical_speed`, `check_of`,
 -- `parts_shown` (of `parts_of`) and `speed_fault_number` are what the calls of like names ensure.
-use Rattle.std.specs.Prelude.{Unit, tt, Option, Some, None, Result, Ok}
+use Rattle.std.specs.Prelude.{Option, Some, None, Result, Ok}
 use mathlib.Core.Path.{◌≡◌, sym}
 use mathlib.Core.Logic.{◌↔◌, ◌≢◌}
 use Prim.Native.Nat.{ℕ, ◌+◌, ◌*◌, ◌/◌, ◌≤◌, ◌<◌}

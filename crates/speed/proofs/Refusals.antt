@@ -1,5 +1,5 @@
 -- A check tells whether its rows hold: 16 by the points that the speed needs, 17 by the speed.
-use Rattle.std.specs.Prelude.{Unit, tt, Option, Some, None, Result, Ok, Err}
+use Rattle.std.specs.Prelude.{Option, Some, None, Result, Ok, Err}
 use mathlib.Core.Path.{◌≡◌, refl}
 use mathlib.Core.Bool.{Bool, true, false}
 use mathlib.Core.List.{[]}

@@ -1,5 +1,5 @@
 -- The parts that are shown: a speed over a divisor, and that a ship is allowed exactly up to the fastest.
-use Rattle.std.specs.Prelude.{tt, Option, Some, None, Ok, Err}
+use Rattle.std.specs.Prelude.{Option, Some, None, Ok, Err}
 use mathlib.Core.Path.{◌≡◌, refl, sym}
 use mathlib.Core.Bool.{Bool, true, false}
 use mathlib.Core.Logic.{◌↔◌, ◌≢◌}

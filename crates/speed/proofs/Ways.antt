@@ -1,5 +1,5 @@
 -- Each way out of the check, as the definition has it: without a slope, by the speed, and at a speed by its one test.
-use Rattle.std.specs.Prelude.{Unit, tt, Option, Result, Ok, Err}
+use Rattle.std.specs.Prelude.{Option, Result, Ok, Err}
 use mathlib.Core.Path.{◌≡◌, ap, sym, ◌∙◌}
 use mathlib.Core.Logic.{◌≢◌}
 use Prim.Native.Nat.{ℕ, ◌*◌, ◌≤◌, ◌<◌}

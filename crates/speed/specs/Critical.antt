@@ -1,5 +1,5 @@
 -- The critical speed (section 13.3), and the check against it (section 13.4).
-use Rattle.std.specs.Prelude.{ℕ, ◌-◌, ◌*◌, List, Unit, tt, Option, Some, None, Result, Ok, Err}
+use Rattle.std.specs.Prelude.{ℕ, ◌-◌, ◌*◌, List, Option, Some, None, Result, Ok, Err}
 use Rattle.laws.specs.Choice.{ifᵇ◌then◌else◌, ◌<ᵇ◌, ◌=ᵇ◌}
 use Rattle.datum.specs.Datum.{dug}
 use Rattle.speed.specs.declared.Section.{Section}

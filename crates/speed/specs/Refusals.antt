@@ -1,5 +1,5 @@
 -- What turns a sheet away here (section 8): each row's number, and what it means.
-use Rattle.std.specs.Prelude.{◌≡◌, List, [], ◌∷◌, ◌≢◌, ℕ, ◌*◌, ◌<◌, Unit, tt, Some, Result, Ok, Err}
+use Rattle.std.specs.Prelude.{◌≡◌, List, [], ◌∷◌, ◌≢◌, ℕ, ◌*◌, ◌<◌, Some, Result, Ok, Err}
 use Rattle.laws.specs.Rows.{Row, ◌when◌}
 use Rattle.speed.specs.declared.Section.{Section}
 use Rattle.speed.specs.declared.SpeedFault.{SpeedFault}

@@ -141,10 +141,7 @@ fn fastest_of(cut: u16, speed: Option<u64>) -> Option<u64>
     ensures { result ≡ fastest_speed cut speed }
 {
     match speed {
-        Some(parts) => over_of(
-            1852 * (2000000 * cut as u64),
-            Some(9 * 3600 * parts),
-        ),
+        Some(parts) => over_of(1852 * (2000000 * cut as u64), Some(9 * 3600 * parts)),
         None => None,
     }
 }

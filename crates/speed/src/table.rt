@@ -3,7 +3,6 @@ ghost use Rattle.std.specs.Prelude.{◌≡◌, ◌≤◌};
 ghost use Rattle.speed.specs.Table.{outside, full_row, entry, point_of};
 ghost use Rattle.speed.specs.Lines.{parts_of};
 
-
 // The mark of a dash: no entry of the table is 0.
 const DASH: u8 = 0;
 

@@ -110,7 +110,12 @@ fn speed_band_of(speed: u8) -> SpeedBand
 }
 
 // The entries of the cross current and the wave, which are known before the depth is.
-pub fn entries_of(water: u8, speed: u8, cross: CrossCurrent, wave: u16) -> Result<Entries, WidthFault>
+pub fn entries_of(
+    water: u8,
+    speed: u8,
+    cross: CrossCurrent,
+    wave: u16,
+) -> Result<Entries, WidthFault>
     ensures { result ≡ entries_of water speed cross wave }
 {
     let column = water_of(water);
@@ -198,7 +203,13 @@ pub fn least_radius(turn: u8, length: u16) -> u32
 }
 
 // What a bend of a turn in degrees and a radius in m asks for, by the ship's length in cm, its speed and the lanes.
-pub fn bend_of(turn: u8, radius: u16, length: u16, knots: u8, lanes: Lanes) -> Result<u32, WidthFault>
+pub fn bend_of(
+    turn: u8,
+    radius: u16,
+    length: u16,
+    knots: u8,
+    lanes: Lanes,
+) -> Result<u32, WidthFault>
     ensures value { result ≡ bend_of turn radius length knots lanes }
     ensures small { widening_figure result < 2 ^ 31 }
 {

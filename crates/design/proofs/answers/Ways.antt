@@ -1,5 +1,5 @@
 -- Each way out of the checks, as the definition has it: what a room answered is carried to the case of the definition that it is.
-use Rattle.std.specs.Prelude.{Unit, Result}
+use Rattle.std.specs.Prelude.{Result}
 use mathlib.Core.Path.{◌≡◌, ap, sym, ◌∙◌}
 use Prim.Native.Nat.{ℕ}
 use Rattle.datum.specs.declared.Level.{Level}

@@ -1,5 +1,5 @@
 -- An answered design came through every room: what each gave stands in its figures.
-use Rattle.std.specs.Prelude.{Unit, tt, Result, Ok, Err}
+use Rattle.std.specs.Prelude.{Result, Ok, Err}
 use mathlib.Core.Path.{◌≡◌, refl, subst}
 use mathlib.Core.Bool.{Bool, true, false}
 use mathlib.Core.List.{List}

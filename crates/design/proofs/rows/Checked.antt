@@ -1,5 +1,5 @@
 -- The rows lead to the answer of a design: from the last room to the first, each tells of its own rows and hands on what it found.
-use Rattle.std.specs.Prelude.{Unit, Result, Ok, Err}
+use Rattle.std.specs.Prelude.{Result, Ok, Err}
 use mathlib.Core.Path.{◌≡◌, refl, sym, ap, subst, subst⁻¹}
 use mathlib.Core.List.{List, []}
 use mathlib.Core.Logic.{◌≢◌}

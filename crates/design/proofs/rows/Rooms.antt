@@ -1,6 +1,6 @@
 -- What rooms tell of the rows of a design: a level of its own passes them, one off the record tells what its table does; the speed tells of the
 -- section of the sheet's figures, which are the only ones.
-use Rattle.std.specs.Prelude.{Unit, Result, Ok}
+use Rattle.std.specs.Prelude.{Result, Ok}
 use mathlib.Core.Path.{◌≡◌, refl, subst}
 use mathlib.Core.List.{List, [], ◌∷◌}
 use Prim.Native.Nat.{ℕ}

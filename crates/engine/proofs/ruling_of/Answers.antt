@@ -8,14 +8,14 @@ use Rattle.engine.proofs.ruling_of.Goals as goal
 pub returns-then-squat_in-ge-NONE : goal.returns-then-squat_in-ge-NONE
 returns-then-squat_in-ge-NONE c = let a = c.args in rules_entry a.stretch a.column (omega arith)
 
-pub returns-in-At : goal.returns-in-At
-returns-in-At c =
+pub returns-in-Some : goal.returns-in-Some
+returns-in-Some c =
     let a = c.args in
-    let found = sym c.in-At.is ∙ c.first_figure-figure.ensures in
+    let found = sym c.in-Some.is ∙ c.first_figure-figure.ensures in
     c.by_figure.ensures ∙ ap (by_figure a.stretch.natural.0) found ∙ rules_figure a.stretch a.column (omega arith)
 
-pub returns-in-Nowhere : goal.returns-in-Nowhere
-returns-in-Nowhere c =
+pub returns-in-None : goal.returns-in-None
+returns-in-None c =
     let a = c.args in
-    let found = sym c.in-Nowhere.is ∙ c.first_figure-figure.ensures in
+    let found = sym c.in-None.is ∙ c.first_figure-figure.ensures in
     ap (by_figure a.stretch.natural.0) found ∙ rules_figure a.stretch a.column (omega arith)

@@ -1,5 +1,5 @@
 -- What reading and writing answer, case by case.
-use Rattle.std.specs.Prelude.{tt, Ok, Err}
+use Rattle.std.specs.Prelude.{Ok, Err}
 use mathlib.Core.Path.{◌≡◌, refl}
 use mathlib.Core.List.{List, ◌++◌}
 use Prim.Native.Nat.{ℕ, ◌<◌, ◌≤◌}

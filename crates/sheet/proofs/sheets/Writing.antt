@@ -1,5 +1,5 @@
 -- Each answer of writing, exactly when it is given, and what the place then holds.
-use Rattle.std.specs.Prelude.{Unit, tt, Result, Ok, Err}
+use Rattle.std.specs.Prelude.{Result, Ok, Err}
 use mathlib.Core.Path.{◌≡◌, refl}
 use mathlib.Core.Bool.{Bool, true, false}
 use mathlib.Core.List.{List, ◌++◌}

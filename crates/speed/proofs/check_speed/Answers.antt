@@ -6,12 +6,12 @@ use Rattle.speed.proofs.Ways.{by_speed_lem}
 use Rattle.speed.proofs.check_speed.Goals as goal
 
 pub against_of-requires : goal.against_of-requires
-against_of-requires c = rw c.in-Parts.is at c.critical_speed-speed.ensures.small
+against_of-requires c = rw c.in-Some.is at c.critical_speed-speed.ensures.small
 
-pub returns-in-Parts : goal.returns-in-Parts
-returns-in-Parts c =
-    by_speed_lem c.args.section _ (omega arith) _ (Some c.in-Parts.parts) _ c.in-Parts.is c.critical_speed-speed.ensures.value c.against_of.ensures
+pub returns-in-Some : goal.returns-in-Some
+returns-in-Some c =
+    by_speed_lem c.args.section _ (omega arith) _ (Some c.in-Some.parts) _ c.in-Some.is c.critical_speed-speed.ensures.value c.against_of.ensures
 
-pub returns-in-Missing : goal.returns-in-Missing
-returns-in-Missing c =
-    by_speed_lem c.args.section c.args.knots (omega arith) _ None _ c.in-Missing.is c.critical_speed-speed.ensures.value refl
+pub returns-in-None : goal.returns-in-None
+returns-in-None c =
+    by_speed_lem c.args.section c.args.knots (omega arith) _ None _ c.in-None.is c.critical_speed-speed.ensures.value refl

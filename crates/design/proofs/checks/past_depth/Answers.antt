@@ -1,5 +1,5 @@
 -- `design::checks::past_depth` meets its contract: by the check of the speed.
-use Rattle.std.specs.Prelude.{tt, Ok, Err}
+use Rattle.std.specs.Prelude.{Ok, Err}
 use mathlib.Core.Path.{refl, ap}
 use Rattle.design.proofs.answers.Ways.{by_check_lem}
 use Rattle.design.proofs.checks.past_depth.Goals as goal
