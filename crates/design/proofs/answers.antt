@@ -2,5 +2,4 @@
 pub mod Numbers
 pub mod Held
 pub mod Figures
-pub mod Ways
 pub mod Worked

@@ -112,7 +112,7 @@ past_entries s level lanes widening entries = by_depth s level lanes widening en
 -- 8: no width entry, which is known before the depth is
 abbrev pub by_entries : Sheet → Level → Lanes → ℕ → Result Entries WidthFault → Result Figures Reason
 by_entries s level lanes widening (Ok entries) = past_entries s level lanes widening entries
-by_entries s level lanes widening (Err NoWidthEntry) = Err (NoWidth NoWidthEntry)
+by_entries s level lanes widening (Err fault) = Err (NoWidth fault)
 
 unfoldable pub past_bend : Sheet → Level → Lanes → ℕ → Result Figures Reason
 past_bend s level lanes widening = by_entries s level lanes widening (entries_of s.water s.speed s.cross s.wave)
@@ -120,7 +120,7 @@ past_bend s level lanes widening = by_entries s level lanes widening (entries_of
 -- 7: the bend is too tight
 abbrev pub by_bend : Sheet → Level → Lanes → Result ℕ WidthFault → Result Figures Reason
 by_bend s level lanes (Ok cm) = past_bend s level lanes cm
-by_bend s level lanes (Err BendTooTight) = Err (NoWidth BendTooTight)
+by_bend s level lanes (Err fault) = Err (NoWidth fault)
 
 abbrev pub lanes_for : Sheet → Lanes
 lanes_for s = lanes_of s.lanes s.channel s.ships s.speed

@@ -4,6 +4,7 @@
 ghost use Rattle.std.specs.Prelude.{◌≡◌};
 ghost use Rattle.design.specs.Design.{design_at, design_of};
 ghost use Rattle.design.specs.Numbers.{code_of, numbers_of};
+ghost use Rattle.design.specs.declared.Reason.TheVariants.{NoSheet, NoLevel, NoWidth, NoDepth, NoSpeed};
 ghost use Rattle.design.specs.Refusals.{reason_number, reason_field};
 
 use class::Classes;
@@ -29,6 +30,46 @@ pub enum Reason {
     NoWidth(WidthFault),
     NoDepth(DepthFault),
     NoSpeed(SpeedFault),
+}
+
+impl From<ReadFault> for Reason {
+    ghost from_gives = { λ fault reason. reason ≡ NoSheet fault };
+
+    fn from(fault: ReadFault) -> Reason {
+        Reason::NoSheet(fault)
+    }
+}
+
+impl From<LevelFault> for Reason {
+    ghost from_gives = { λ fault reason. reason ≡ NoLevel fault };
+
+    fn from(fault: LevelFault) -> Reason {
+        Reason::NoLevel(fault)
+    }
+}
+
+impl From<WidthFault> for Reason {
+    ghost from_gives = { λ fault reason. reason ≡ NoWidth fault };
+
+    fn from(fault: WidthFault) -> Reason {
+        Reason::NoWidth(fault)
+    }
+}
+
+impl From<DepthFault> for Reason {
+    ghost from_gives = { λ fault reason. reason ≡ NoDepth fault };
+
+    fn from(fault: DepthFault) -> Reason {
+        Reason::NoDepth(fault)
+    }
+}
+
+impl From<SpeedFault> for Reason {
+    ghost from_gives = { λ fault reason. reason ≡ NoSpeed fault };
+
+    fn from(fault: SpeedFault) -> Reason {
+        Reason::NoSpeed(fault)
+    }
 }
 
 // The figures of a sheet that is answered, in cm.
@@ -80,6 +121,7 @@ fn reason_field(reason: Reason) -> u8
 pub const COUNT: usize = 13;
 
 // The design of a sheet over a level table.
+#[tactic(auto, unfolding(crate::specs::Design::design_of))]
 pub fn design(bytes: &[u8], table: &[u32]) -> Result<Figures, Reason>
     ensures { result ≡ design_of bytes.now table.now }
 {
@@ -87,14 +129,11 @@ pub fn design(bytes: &[u8], table: &[u32]) -> Result<Figures, Reason>
 }
 
 // The same at a level that is already read off the table, for a caller with many sheets.
+#[tactic(auto, unfolding(crate::specs::Design::design_at))]
 pub fn design_at(bytes: &[u8], level: Result<Level, LevelFault>) -> Result<Figures, Reason>
     ensures { result ≡ design_at bytes.now level }
 {
-    let reading = sheet::read(bytes);
-    match reading {
-        Ok(sheet) => checks::of_sheet(sheet, level),
-        Err(fault) => Err(Reason::NoSheet(fault)),
-    }
+    checks::of_sheet(sheet::read(bytes)?, level)
 }
 
 // The code of a design: 0, or the number that turns its sheet away.
@@ -108,6 +147,7 @@ pub fn code(design: Result<Figures, Reason>) -> u8
 }
 
 // The numbers of a design.
+#[tactic(auto, unfolding(crate::specs::Numbers::numbers_of))]
 pub fn numbers(design: Result<Figures, Reason>) -> [i32; COUNT]
     ensures { result ≡ numbers_of design }
 {

@@ -5,11 +5,11 @@ ghost use Rattle.design.specs.Design.{level_for, depth_stretch, width_stretch, w
 use crate::Figures;
 use datum::{BelowLevel, Level};
 use depth::DepthFigures;
+use gauge::LevelFault;
 use lanes::Lanes;
 use sheet::{LevelSource, Sheet};
 use speed::Section;
 use width::Entries;
-use gauge::LevelFault;
 
 // The level of a sheet: its own, or the one read off the record.
 pub fn level_for(source: LevelSource, read: Result<Level, LevelFault>) -> Result<Level, LevelFault>
@@ -25,17 +25,14 @@ pub fn level_for(source: LevelSource, read: Result<Level, LevelFault>) -> Result
 pub fn depth_stretch(sheet: Sheet, level: Level, lanes: Lanes) -> depth::Stretch
     ensures { result ≡ depth_stretch sheet level lanes }
 {
-    let bed = sheet.bed;
-    let natural = datum::natural_depth(bed, level);
-    let interval = depth::interval_of(sheet.interval);
     depth::Stretch {
         draft: sheet.draft,
         length: sheet.length,
         soil: sheet.soil,
         allowance: sheet.allowance,
         silting: sheet.silting,
-        interval,
-        natural,
+        interval: depth::interval_of(sheet.interval),
+        natural: datum::natural_depth(sheet.bed, level),
         speed: sheet.speed,
         lanes,
     }
@@ -45,13 +42,12 @@ pub fn depth_stretch(sheet: Sheet, level: Level, lanes: Lanes) -> depth::Stretch
 pub fn width_stretch(sheet: Sheet, lanes: Lanes, sailing: BelowLevel) -> width::Stretch
     ensures { result ≡ width_stretch sheet lanes sailing }
 {
-    let along = sheet.along;
     width::Stretch {
         beam: sheet.beam,
         draft: sheet.draft,
         handling: sheet.handling,
         wind: sheet.wind,
-        along,
+        along: sheet.along,
         aids: sheet.aids,
         bottom: sheet.bottom,
         cargo: sheet.cargo,
@@ -68,33 +64,23 @@ pub(crate) fn width_at(sheet: Sheet, lanes: Lanes, entries: Entries, depth: Dept
     ensures value { result ≡ width_at sheet lanes entries depth }
     ensures small { result < 2 ^ 31 }
 {
-    let sailing = depth.sailing;
-    width::width_of(width_stretch(sheet, lanes, sailing), entries)
+    width::width_of(width_stretch(sheet, lanes, depth.sailing), entries)
 }
 
 // The section of a sheet at its level, with its width and its cut.
 pub fn section_of(sheet: Sheet, level: Level, width: u32, cut: BelowLevel) -> Section
     ensures { result ≡ speed_section sheet level width cut }
 {
-    let bed = sheet.bed;
-    let natural = datum::natural_depth(bed, level);
     Section {
-        natural,
+        natural: datum::natural_depth(sheet.bed, level),
         cut,
         width,
         slope: sheet.slope,
     }
 }
 
-// A figure under 2 ^ 31, as a signed number.
-fn signed(figure: u32) -> i32
-    requires { figure < 2 ^ 31 }
-    ensures { result ≡ pos figure }
-{
-    figure as i32
-}
-
 // The figures of a sheet at its level, in its lanes, with the widening of its bend, its width and its depth.
+#[tactic(auto, unfolding(crate::specs::Design::figures_of))]
 pub(crate) fn figures_of(
     sheet: Sheet,
     level: Level,
@@ -106,19 +92,15 @@ pub(crate) fn figures_of(
     requires { (widening < 2 ^ 31) × (width < 2 ^ 31) }
     ensures { result ≡ figures_of sheet level lanes widening width depth }
 {
-    let cut = depth.cut;
-    let sailing = depth.sailing;
-    let datum = datum::datum_depth(cut, level);
-    let classes = class::classes_of(sheet.deadweight, width, lanes, sailing);
     Figures {
         level,
         lanes,
-        sailing,
-        cut,
-        datum,
-        width: signed(width),
-        widening: signed(widening),
+        sailing: depth.sailing,
+        cut: depth.cut,
+        datum: datum::datum_depth(depth.cut, level),
+        width: width as i32,
+        widening: widening as i32,
         columns: depth.columns,
-        classes,
+        classes: class::classes_of(sheet.deadweight, width, lanes, depth.sailing),
     }
 }

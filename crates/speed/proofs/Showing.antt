@@ -26,11 +26,11 @@ module _ (divisor : ℕ) (speed : Option ℕ) where
   unfolding over
   over_some some = rw (ne_eqb divisor 0 some)
 
-pub over_missing : (divisor : ℕ) → None ≡ over divisor None
+pub over_missing : (divisor : ℕ) → ◌≡◌ {A = Option ℕ} None (over divisor None)
 unfolding over
 over_missing divisor = go (eqb divisor 0)
   where
-    go : (b : Bool) → None ≡ (ifᵇ b then None else None)
+    go : (b : Bool) → ◌≡◌ {A = Option ℕ} None (ifᵇ b then None else None)
     go true = refl
     go false = refl
 

@@ -15,6 +15,7 @@ use Rattle.datum.specs.declared.CrossCurrent.{CrossCurrent}
 use Rattle.lanes.specs.declared.Lanes.{Lanes}
 use Rattle.width.specs.Bands.{water_of, speed_band_of, cross_entry, wave_entry, entries_by, entries_of}
 use Rattle.width.specs.Bends.{least_lengths, bend_of, widening_figure}
+use Rattle.width.specs.declared.WidthFault.TheVariants.{NoWidthEntry as EntryFault}
 use Rattle.width.specs.Refusals.{bend_number, entries_number, TightBend, NoWidthEntry, bend_rows, entries_rows}
 use Rattle.width.specs.declared.Water.{Water}
 use Rattle.width.specs.declared.Water.TheVariants.{Open, Sheltered}
@@ -40,7 +41,7 @@ sheltered_past water last figure is over = rw (eq-eqb water 1 is) over
 
 -- what is told of entries: those that are found are some
 abbrev pub entering : Call (Result Entries WidthFault)
-entering = record { number = entries_number; answered = λ found. (e : Entries) × (found ≡ Ok e); refused = λ found. found ≡ (Err NoWidthEntry) }
+entering = record { number = entries_number; answered = λ found. (e : Entries) × (found ≡ Ok e); refused = λ found. found ≡ Err EntryFault }
 
 module _ (water speed : ℕ) (cross : CrossCurrent) (wave : ℕ) where
   abbrev column : Water

@@ -45,4 +45,4 @@ width_of stretch entries = up (tenths_of stretch.lanes (items_of stretch entries
 -- the figure of a stretch by the entries that it has or has not: its width in cm, 0 when refused
 abbrev pub width_figure : Stretch → Result Entries WidthFault → ℕ
 width_figure stretch (Ok entries) = width_of stretch entries
-width_figure stretch (Err NoWidthEntry) = 0
+width_figure stretch (Err fault) = 0

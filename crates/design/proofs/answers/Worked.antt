@@ -83,7 +83,7 @@ module _ (s : Sheet) (read : Result Level LevelFault) (f : Figures) where
           go : (found : Result Entries WidthFault) → entries_of s.water s.speed s.cross s.wave ≡ found → by_entries s level lanes widening found ≡ Ok f
               → WorkedFrom s read f
           go (Ok entries) is e = past_entries_lem entries is e
-          go (Err NoWidthEntry) is e = never cc
+          go (Err fault) is e = never cc
 
     at_level_lem : at_level s level ≡ Ok f → WorkedFrom s read f
     unfolding at_level
@@ -91,7 +91,7 @@ module _ (s : Sheet) (read : Result Level LevelFault) (f : Figures) where
       where
         go : (b : Result ℕ WidthFault) → bend_of s.turn s.radius s.length s.speed lanes ≡ b → by_bend s level lanes b ≡ Ok f → WorkedFrom s read f
         go (Ok cm) is e = past_bend_lem cm is e
-        go (Err BendTooTight) is e = never cc
+        go (Err fault) is e = never cc
 
   of_sheet_lem : of_sheet s read ≡ Ok f → WorkedFrom s read f
   unfolding of_sheet
