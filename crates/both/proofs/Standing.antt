@@ -58,12 +58,12 @@ module _ (s : Sheet) (level : Level) where
   by_entries_lem : (widening : ℕ) (found : Result Entries WidthFault) → Stands (by_entries s level (lanes_for s) widening found) the_depth
   unfolding past_entries
   by_entries_lem widening (Ok entries) = by_depth_lem widening entries the_depth refl
-  by_entries_lem widening (Err NoWidthEntry) = tt
+  by_entries_lem widening (Err fault) = tt
 
   by_bend_lem : (bend : Result ℕ WidthFault) → Stands (by_bend s level (lanes_for s) bend) the_depth
   unfolding past_bend
   by_bend_lem (Ok cm) = by_entries_lem cm (entries_of s.water s.speed s.cross s.wave)
-  by_bend_lem (Err BendTooTight) = tt
+  by_bend_lem (Err fault) = tt
 
   pub stands : Stands (at_level s level) the_depth
   unfolding at_level

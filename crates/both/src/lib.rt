@@ -4,12 +4,12 @@
 ghost use Rattle.std.specs.Prelude.{◌≡◌};
 ghost use Rattle.both.specs.Both.{reason_came, came_to, uncounted, same_numbers, verdict_of, not_come, of_stretch, by_level, by_reading, both_of};
 
-use design::{Figures, Reason};
-use engine::{PLAIN_COUNT, PlainFigures};
-use sheet::{ReadFault, Sheet};
 use datum::Level;
 use depth::{DepthFault, DepthFigures};
+use design::{Figures, Reason};
+use engine::{PLAIN_COUNT, PlainFigures};
 use gauge::LevelFault;
+use sheet::{ReadFault, Sheet};
 
 // What the two engines come to on a sheet: it is refused before its depth, or they agree, or they differ.
 #[derive(Clone, Copy)]
@@ -40,36 +40,18 @@ fn came_to(answer: Result<Figures, Reason>) -> bool
 fn reason_came(reason: Reason) -> bool
     ensures { result ≡ reason_came reason }
 {
-    match reason {
-        Reason::NoSheet(_) => false,
-        Reason::NoShip => false,
-        Reason::NoLevel(_) => false,
-        Reason::NoWidth(_) => false,
-        Reason::NoDepth(_) => true,
-        Reason::NoSpeed(_) => true,
-    }
+    matches!(reason, Reason::NoDepth(_) | Reason::NoSpeed(_))
 }
 
-// Whether two depths have the same refusal, sailing depth and cut.
-fn same_numbers(worked: [u64; PLAIN_COUNT], plain: [u64; PLAIN_COUNT]) -> bool
-    ensures { result ≡ same_numbers worked plain }
-{
-    if worked[0] != plain[0] {
-        return false;
-    }
-    if worked[1] != plain[1] {
-        return false;
-    }
-    worked[2] == plain[2]
-}
-
+// Two depths agree where they have the same refusal, sailing depth and cut.
 fn verdict_of(worked: [u64; PLAIN_COUNT], plain: [u64; PLAIN_COUNT]) -> Verdict
     ensures { result ≡ verdict_of worked plain }
 {
-    if same_numbers(worked, plain) {
-        return Verdict::Agreed;
+    if worked == plain {
+        Verdict::Agreed
+    } else {
+        Verdict::Differed
     }
-    Verdict::Differed
 }
 
 // An answer with nothing of the plain engine: of a sheet that is refused before its depth, or where that engine is not asked.
@@ -87,55 +69,56 @@ pub fn not_come(answer: Result<Figures, Reason>) -> Both
 fn uncounted_of(depth: Result<DepthFigures, DepthFault>) -> Result<PlainFigures, DepthFault>
     ensures { result ≡ uncounted depth }
 {
-    match depth {
-        Ok(figures) => {
-            let cut = figures.cut;
-            let sailing = figures.sailing;
-            Ok(PlainFigures { cut, sailing })
-        }
-        Err(fault) => Err(fault),
-    }
+    let figures = depth?;
+    Ok(PlainFigures {
+        cut: figures.cut,
+        sailing: figures.sailing,
+    })
 }
 
 // The two engines on the stretch of a sheet.
+#[tactic(auto, unfolding(crate::specs::Both::of_stretch))]
 fn of_stretch(answer: Result<Figures, Reason>, stretch: depth::Stretch) -> Both
     ensures { result ≡ of_stretch answer stretch }
 {
     let worked = engine::plain_numbers(uncounted_of(depth::work_depth(stretch)));
     let plain = engine::plain_numbers(engine::plain_depth(stretch));
-    let verdict = verdict_of(worked, plain);
     Both {
         answer,
         plain,
-        verdict,
+        verdict: verdict_of(worked, plain),
     }
 }
 
 fn by_level(answer: Result<Figures, Reason>, sheet: Sheet, level: Result<Level, LevelFault>) -> Both
     ensures { result ≡ by_level answer sheet level }
 {
-    match level {
-        Ok(found) => {
-            let lanes = lanes::lane_rule(sheet.lanes, sheet.channel, sheet.ships, sheet.speed);
-            of_stretch(answer, design::working::depth_stretch(sheet, found, lanes))
-        }
-        Err(_) => not_come(answer),
-    }
+    let Ok(found) = level else {
+        return not_come(answer);
+    };
+    let lanes = lanes::lane_rule(sheet.lanes, sheet.channel, sheet.ships, sheet.speed);
+    of_stretch(answer, design::working::depth_stretch(sheet, found, lanes))
 }
 
-fn by_reading(answer: Result<Figures, Reason>, reading: Result<Sheet, ReadFault>, level: Result<Level, LevelFault>) -> Both
+fn by_reading(
+    answer: Result<Figures, Reason>,
+    reading: Result<Sheet, ReadFault>,
+    level: Result<Level, LevelFault>,
+) -> Both
     ensures { result ≡ by_reading answer reading level }
 {
-    match reading {
-        Ok(sheet) => {
-            let source = sheet.level;
-            by_level(answer, sheet, design::working::level_for(source, level))
-        }
-        Err(_) => not_come(answer),
-    }
+    let Ok(sheet) = reading else {
+        return not_come(answer);
+    };
+    by_level(
+        answer,
+        sheet,
+        design::working::level_for(sheet.level, level),
+    )
 }
 
 // The design of a sheet at a level that is already read off the table, and the plain engine beside it.
+#[tactic(auto, unfolding(crate::specs::Both::both_of))]
 pub fn design_both(bytes: &[u8], level: Result<Level, LevelFault>) -> Both
     ensures { result ≡ both_of bytes.now level }
 {
