@@ -22,7 +22,6 @@ use Rattle.both.specs.Both.{came_to, DesignedAt}
 use Rattle.sheet.specs.declared.ReadFault.{ReadFault}
 use Rattle.design.specs.declared.Reason.{Reason}
 use Rattle.speed.specs.declared.SpeedFault.{SpeedFault}
-use Rattle.width.specs.declared.WidthFault.TheVariants.{BendTooTight, NoWidthEntry}
 use Rattle.design.specs.declared.Figures.{Figures}
 use Rattle.width.specs.declared.WidthFault.{WidthFault}
 use Rattle.depth.specs.declared.DepthFault.{DepthFault}

@@ -1,4 +1,4 @@
--- Two depths compared: three numbers each.
+-- Two depths compared, three numbers each; and a sheet that came to its depth or did not.
 use Rattle.std.specs.Prelude.{Result, nat_eq}
 use mathlib.Core.Path.{◌≡◌, refl}
 use mathlib.Core.Bool.{Bool, true, false, ◌&&◌}
@@ -34,3 +34,10 @@ compared (a ∷ b ∷ c ∷ []) (d ∷ e ∷ f ∷ []) l m = go (eqb a d) (eqb b
     go true true false = refl
     go true false r = refl
     go false q r = refl
+
+module _ (bytes : List ℕ) (read : Result Level LevelFault) (answer : Result Figures Reason) where
+  pub refused_before : came_to answer ≡ false → not_come answer ≡ beside bytes read answer
+  refused_before e = rw e
+
+  pub came_there : came_to answer ≡ true → by_reading answer (read_of bytes) read ≡ beside bytes read answer
+  came_there e = rw e
