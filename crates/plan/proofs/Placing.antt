@@ -4,9 +4,10 @@ use native.Mathlib.Omega.{arith}
 use native.Mathlib.Numerals.{add-one}
 use mathlib.Core.Path.{◌≡◌, refl, ap, ◌∙◌}
 use mathlib.Core.List.{List, [], ◌∷◌, ◌++◌}
+use Rattle.std.proofs.Common.{append_assoc}
 use lib.IntN.{ℤ, pos}
 use lib.ListN.{length, take, drop, get_or}
-use lib.Seq.{sets, sets-eq, take_at, drop-append-add, drop-drop, take-suc, length-take-le}
+use lib.Seq.{take_at, drop-append-add, drop-drop, take-suc, length-take-le}
 use mir.Syntax.{w32}
 use mir.Val.{of_z}
 use Rattle.plan.specs.Words.{word_bytes, bytes_of_numbers}
@@ -21,7 +22,7 @@ bytes_length (z ∷ numbers) = omega (arith, bytes_length numbers)
 
 pub one_more : (numbers : List ℤ) (before place : List ℕ) (i : ℕ) → i < length numbers → 4 * length numbers ≤ length before
     → length place ≡ length before → place ≡ bytes_of_numbers (take i numbers) ++ drop (4 * i) before
-    → sets place (4 * i) (word_bytes (of_z w32 (get_or numbers i (pos 0)))) ≡ bytes_of_numbers (take (i + 1) numbers) ++ drop (4 * (i + 1)) before
+    → take (4 * i) place ++ (word_bytes (of_z w32 (get_or numbers i (pos 0))) ++ drop (4 * i + 4) place) ≡ bytes_of_numbers (take (i + 1) numbers) ++ drop (4 * (i + 1)) before
 one_more numbers before place i h large same e =
     let z = get_or numbers i (pos 0) in
     let done = bytes_of_numbers (take i numbers) in
@@ -30,5 +31,4 @@ one_more numbers before place i h large same e =
     let back : drop (4 * i + 4) place ≡ drop (4 * i + 4) before =
     rw (e, ← n) (drop-append-add done (drop (length done) before) 4 ∙ drop-drop 4 (length done) before) in
     let k : 4 * (i + 1) ≡ 4 * i + 4 = omega arith in
-    sets-eq (word_bytes (of_z w32 z)) place (4 * i) (omega arith)
-    ∙ rw (front, back, k, add-one i, take-suc numbers i (pos 0) h, bytes_append (take i numbers) (z ∷ []))
+    rw (front, back, k, add-one i, take-suc numbers i (pos 0) h, bytes_append (take i numbers) (z ∷ []), append_assoc)
