@@ -6,7 +6,6 @@ use Rattle.lanes.specs.declared.Lanes.{Lanes}
 use Rattle.typed.specs.Rows.{bytes_of}
 use Rattle.width.specs.Bends.{bend_of, least_radius}
 use Rattle.worksheet.specs.Filling.{with}
-use Rattle.width.specs.declared.WidthFault.TheVariants.{BendTooTight}
 use Rattle.width.specs.declared.WidthFault.{WidthFault}
 
 -- what a bend asks for
@@ -14,7 +13,7 @@ abbrev pub bend_text : Result ℕ WidthFault → ℕ → ℕ → ℕ → List �
 bend_text (Ok cm) turn radius length =
     with "BEND\n  turn %0 deg, least radius %0 m, radius %0 m, widening %0 cm\n"
     (Count turn ∷ Count (least_radius turn length) ∷ Count radius ∷ Count cm ∷ [])
-bend_text (Err BendTooTight) turn radius length =
+bend_text (Err fault) turn radius length =
     with "BEND\n  turn %0 deg, least radius %0 m, radius %0 m: too tight\n" (Count turn ∷ Count (least_radius turn length) ∷ Count radius ∷ [])
 
 unfoldable pub bend_part : ℕ → ℕ → ℕ → ℕ → Lanes → List ℕ

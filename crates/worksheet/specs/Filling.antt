@@ -1,7 +1,6 @@
 -- Lines with blanks, and the figures that fill them (section 15.1).
-use Rattle.std.specs.Prelude.{ℕ, List, [], ◌++◌, ℤ, pos, negsuc, take, replicate, Option, Some, None}
+use Rattle.std.specs.Prelude.{ℕ, List, [], ℤ, pos, negsuc, Option, Some, None}
 use Prim.Native.String.{String}
-use Rattle.laws.specs.Choice.{ifᵇ◌then◌else◌, ◌=ᵇ◌}
 use Rattle.blanks.specs.Blanks.{filled}
 use Rattle.blanks.specs.declared.Figure.{Figure}
 use Rattle.blanks.specs.declared.Figure.TheVariants.{Count, Signed, Letter, Nothing}
@@ -11,17 +10,13 @@ use Rattle.depth.specs.declared.Column.{Column}
 use Rattle.depth.specs.declared.Column.TheVariants.{A, B, C}
 use Rattle.typed.specs.Rows.{bytes_of}
 
--- eight figures; no blank asks for those behind the text's own
-abbrev pub eight : List Figure → List Figure
-eight figures = take 8 (figures ++ replicate 8 Nothing)
-
 -- a text with its blanks filled
 abbrev pub with : String → List Figure → List ℕ
-with text figures = filled [] (bytes_of text) (eight figures)
+with text figures = filled [] (bytes_of text) figures
 
 -- the same with words from a table
 abbrev pub worded : List ℕ → String → List Figure → List ℕ
-worded words text figures = filled words (bytes_of text) (eight figures)
+worded words text figures = filled words (bytes_of text) figures
 
 -- a level above chart datum
 abbrev pub level_figure : Level → Figure
@@ -33,14 +28,10 @@ column_letter A = Letter 65
 column_letter B = Letter 66
 column_letter C = Letter 67
 
--- a limit; 0 is none
-unfoldable pub limit_figure : ℕ → Figure
-limit_figure limit = ifᵇ limit =ᵇ 0 then Nothing else Count limit
-
--- a speed, where there is one
-abbrev pub speed_figure : Option ℕ → Figure
-speed_figure (Some parts) = Count parts
-speed_figure None = Nothing
+-- a count, where there is one
+abbrev pub count_or_none : Option ℕ → Figure
+count_or_none (Some count) = Count count
+count_or_none None = Nothing
 
 -- a figure of an answer without its sign, which none has
 abbrev pub unsigned_of : ℤ → ℕ

@@ -5,7 +5,7 @@ use Rattle.blanks.specs.declared.Figure.TheVariants.{Count}
 use Rattle.speed.specs.Shown.{parts_shown}
 use Rattle.speed.specs.declared.Section.{Section}
 use Rattle.speed.specs.declared.SpeedParts.{SpeedParts}
-use Rattle.worksheet.specs.Filling.{with, speed_figure}
+use Rattle.worksheet.specs.Filling.{with, count_or_none}
 
 -- nine tenths of the critical speed, where there is one
 abbrev pub fastest_text : Option ℕ → ℕ → List ℕ
@@ -18,7 +18,7 @@ fastest_text None knots = []
 unfoldable pub parts_text : ℕ → ℕ → SpeedParts → List ℕ
 parts_text slope cut p =
     with "SPEED at side slopes of 1/%0\n  V' %0 mm/s   V'' %0 mm/s   h %0 of %0 cm   critical %0 mm/s\n"
-    (Count slope ∷ speed_figure p.shallow ∷ speed_figure p.full ∷ Count p.dug ∷ Count cut ∷ speed_figure p.critical ∷ [])
+    (Count slope ∷ count_or_none p.shallow ∷ count_or_none p.full ∷ Count p.dug ∷ Count cut ∷ count_or_none p.critical ∷ [])
 
 unfoldable pub speed_part : Section → ℕ → List ℕ
 speed_part q knots =

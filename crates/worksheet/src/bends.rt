@@ -4,11 +4,20 @@ ghost use Rattle.lines.specs.Lines.{Put};
 ghost use Rattle.worksheet.specs.Bends.{bend_text, bend_part};
 
 use crate::filling;
+use blanks::Figure;
 use lanes::Lanes;
+use lines::fitting;
 use width::WidthFault;
 
 // What a bend asks for.
-fn put_bend_of(bend: Result<u32, WidthFault>, turn: u8, radius: u16, ship: u16, buffer: &mut [u8], at: usize) -> usize
+fn put_bend_of(
+    bend: Result<u32, WidthFault>,
+    turn: u8,
+    radius: u16,
+    ship: u16,
+    buffer: &mut [u8],
+    at: usize,
+) -> usize
     requires { at + 900 ≤ length buffer.old }
     ensures { Put buffer.old at (bend_text bend turn radius ship) buffer.new result × (result ≤ at + 900) }
 {
@@ -16,22 +25,22 @@ fn put_bend_of(bend: Result<u32, WidthFault>, turn: u8, radius: u16, ship: u16, 
     match bend {
         Ok(cm) => filling::put(
             b"BEND\n  turn %0 deg, least radius %0 m, radius %0 m, widening %0 cm\n",
-            filling::four(
-                filling::small(turn),
-                filling::wide(least),
-                filling::short(radius),
-                filling::wide(cm),
-            ),
+            &[
+                Figure::Count(u64::from(turn)),
+                Figure::Count(u64::from(least)),
+                Figure::Count(u64::from(radius)),
+                Figure::Count(u64::from(cm)),
+            ],
             buffer,
             at,
         ),
-        Err(WidthFault::BendTooTight) => filling::put(
+        Err(_) => filling::put(
             b"BEND\n  turn %0 deg, least radius %0 m, radius %0 m: too tight\n",
-            filling::three(
-                filling::small(turn),
-                filling::wide(least),
-                filling::short(radius),
-            ),
+            &[
+                Figure::Count(u64::from(turn)),
+                Figure::Count(u64::from(least)),
+                Figure::Count(u64::from(radius)),
+            ],
             buffer,
             at,
         ),
@@ -52,7 +61,7 @@ pub fn put_bend(
     ensures { Put buffer.old at (bend_part turn radius ship knots lanes) buffer.new result × (result ≤ at + 900) }
 {
     if turn == 0 {
-        return filling::put_bytes(b"BEND\n  straight\n", buffer, at);
+        return fitting::put(b"BEND\n  straight\n", buffer, at);
     }
     let bend = width::bend_of(turn, radius, ship, knots, lanes);
     put_bend_of(bend, turn, radius, ship, buffer, at)

@@ -7,32 +7,31 @@ use crate::filling;
 use blanks::Figure;
 use datum::Level;
 use depth::{DepthFault, DepthFigures, Finding, Stretch, Try, Worksheet};
+use lines::fitting;
 
 // The numbers of a try: which it is, and what it has.
 fn put_numbers(number: u64, tried: Try, buffer: &mut [u8], at: usize) -> usize
     requires { at + 500 ≤ length buffer.old }
     ensures { Put buffer.old at (try_numbers number tried) buffer.new result × (result ≤ at + 500) }
 {
-    let column = tried.column;
-    let falls_in = tried.falls_in;
     let front = filling::put(
         b"  %1   %0   %4  %5",
-        filling::four(
+        &[
             Figure::Count(number),
-            filling::letter(column),
-            filling::short(tried.squat),
+            filling::letter(tried.column),
+            Figure::Count(u64::from(tried.squat)),
             Figure::Count(tried.sailing.0),
-        ),
+        ],
         buffer,
         at,
     );
     filling::put(
         b"  %5  %6  %0   ",
-        filling::three(
+        &[
             Figure::Count(tried.silt),
             Figure::Count(tried.figure.0),
-            filling::letter(falls_in),
-        ),
+            filling::letter(tried.falls_in),
+        ],
         buffer,
         front,
     )
@@ -45,17 +44,16 @@ fn put_silt(number: u64, tried: Try, buffer: &mut [u8], at: usize) -> usize
 {
     if tried.silt < depth::ENDLESS {
         let end = put_numbers(number, tried, buffer, at);
-        return filling::put_bytes(b"unusable: silt over 120\n", buffer, end);
+        return fitting::put(b"unusable: silt over 120\n", buffer, end);
     }
-    let column = tried.column;
     filling::put(
         b"  %1   %0   %4  %5   none    none      unusable: silts up whole\n",
-        filling::four(
+        &[
             Figure::Count(number),
-            filling::letter(column),
-            filling::short(tried.squat),
+            filling::letter(tried.column),
+            Figure::Count(u64::from(tried.squat)),
             Figure::Count(tried.sailing.0),
-        ),
+        ],
         buffer,
         at,
     )
@@ -75,14 +73,13 @@ fn put_unusable(
 {
     match fault {
         DepthFault::NoSquatEntry => {
-            let column = tried.column;
             filling::put(
                 b"  %1   %0   none  unusable: no squat entry at %0 kn\n",
-                filling::three(
+                &[
                     Figure::Count(number),
-                    filling::letter(column),
-                    filling::small(knots),
-                ),
+                    filling::letter(tried.column),
+                    Figure::Count(u64::from(knots)),
+                ],
                 buffer,
                 at,
             )
@@ -90,7 +87,7 @@ fn put_unusable(
         DepthFault::SiltOver => put_silt(number, tried, buffer, at),
         DepthFault::CutOver => {
             let end = put_numbers(number, tried, buffer, at);
-            filling::put_bytes(b"unusable: cut over 3000\n", buffer, end)
+            fitting::put(b"unusable: cut over 3000\n", buffer, end)
         }
     }
 }
@@ -110,14 +107,13 @@ fn put_found(
     match finding {
         Ok(Finding::Stays) => {
             let end = put_numbers(number, tried, buffer, at);
-            filling::put_bytes(b"stays\n", buffer, end)
+            fitting::put(b"stays\n", buffer, end)
         }
         Ok(Finding::Moves) => {
             let end = put_numbers(number, tried, buffer, at);
-            let falls_in = tried.falls_in;
             filling::put(
                 b"moves to %0\n",
-                filling::one(filling::letter(falls_in)),
+                &[filling::letter(tried.falls_in)],
                 buffer,
                 end,
             )
@@ -135,14 +131,14 @@ fn put_try(number: u64, tried: Try, knots: u8, buffer: &mut [u8], at: usize) -> 
 
 // Each try, in their order.
 fn put_tries(worksheet: Worksheet, knots: u8, buffer: &mut [u8], at: usize) -> usize
-    requires { (worksheet.count ≤ 3) × (at + 2400 ≤ length buffer.old) }
+    requires { at + 2400 ≤ length buffer.old }
     ensures { Put buffer.old at (tries_text worksheet knots) buffer.new result × (result ≤ at + 2400) }
 {
     let mut end = at;
-    let mut i: usize = 0;
-    while i < worksheet.count as usize {
-        end = put_try(i as u64 + 1, worksheet.tries[i], knots, buffer, end);
-        i += 1;
+    let mut number = 0;
+    for tried in worksheet.tries() {
+        number += 1;
+        end = put_try(number, *tried, knots, buffer, end);
     }
     end
 }
@@ -153,44 +149,43 @@ fn put_head(stretch: Stretch, buffer: &mut [u8], at: usize) -> usize
     ensures { Put buffer.old at (depth_head stretch) buffer.new result × (result ≤ at + 1500) }
 {
     let allowances = depth::allowances_of(stretch);
-    let natural = stretch.natural;
     filling::put(
         b"DEPTH below the design level, cm\n  draft %0   N %0   z0 %0   z1 %0   z2 %0\n  try col   z3      s     z4  figure  falls in\n",
-        filling::five(
-            filling::short(stretch.draft),
-            filling::short(natural.0),
+        &[
+            Figure::Count(u64::from(stretch.draft)),
+            Figure::Count(u64::from(stretch.natural.0)),
             Figure::Count(allowances.list),
             Figure::Count(allowances.keel),
             Figure::Count(allowances.wave),
-        ),
+        ],
         buffer,
         at,
     )
 }
 
 // The cut, the sailing depth and the datum depth, where there is a depth.
-fn put_cut(depth: Result<DepthFigures, DepthFault>, level: Level, buffer: &mut [u8], at: usize) -> usize
+fn put_cut(
+    depth: Result<DepthFigures, DepthFault>,
+    level: Level,
+    buffer: &mut [u8],
+    at: usize,
+) -> usize
     requires { at + 800 ≤ length buffer.old }
     ensures { Put buffer.old at (cut_by depth level) buffer.new result × (result ≤ at + 800) }
 {
-    match depth {
-        Ok(found) => {
-            let cut = found.cut;
-            let sailing = found.sailing;
-            let datum = datum::datum_depth(cut, level);
-            filling::put(
-                b"  cut %0   sailing depth s %0   datum depth %0 below chart datum\n",
-                filling::three(
-                    filling::short(cut.0),
-                    filling::short(sailing.0),
-                    Figure::Signed(datum.0),
-                ),
-                buffer,
-                at,
-            )
-        }
-        Err(_) => at,
-    }
+    let Ok(found) = depth else {
+        return at;
+    };
+    filling::put(
+        b"  cut %0   sailing depth s %0   datum depth %0 below chart datum\n",
+        &[
+            Figure::Count(u64::from(found.cut.0)),
+            Figure::Count(u64::from(found.sailing.0)),
+            Figure::Signed(datum::datum_depth(found.cut, level).0),
+        ],
+        buffer,
+        at,
+    )
 }
 
 // The part of the depth.

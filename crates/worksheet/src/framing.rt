@@ -6,6 +6,7 @@ ghost use Rattle.worksheet.specs.Framing.{continues, whole_to, name_end, name_te
 
 use crate::filling;
 use blanks::Figure;
+use lines::fitting;
 
 // The bytes of a name that are shown at most, and those of a sheet.
 const NAME: usize = 36;
@@ -16,10 +17,7 @@ const SHEET: usize = 28;
 fn continues_letter(byte: u8) -> bool
     ensures { result ≡ continues byte }
 {
-    if byte < 128 {
-        return false;
-    }
-    byte < 192
+    matches!(byte, 128..=191)
 }
 
 // The greatest place up to one at which no letter is torn.
@@ -27,14 +25,12 @@ fn whole_to(name: &[u8], most: usize) -> usize
     requires { most < length name.now }
     ensures { (result ≡ whole_to name.now most) × (result ≤ most) }
 {
-    let mut end = most;
-    while 0 < end {
+    for end in (1..=most).rev() {
         if !continues_letter(name[end]) {
             return end;
         }
-        end -= 1;
     }
-    end
+    0
 }
 
 // How many bytes of a name are shown.
@@ -54,12 +50,12 @@ pub fn put_head(index: u64, name: &[u8], buffer: &mut [u8], at: usize) -> usize
 {
     let title = filling::put(
         b"CHANNEL WORKSHEET   sheet %0",
-        filling::one(Figure::Count(index)),
+        &[Figure::Count(index)],
         buffer,
         at,
     );
     let named = put_name(name, buffer, title);
-    filling::put_bytes(b"\n\n", buffer, named)
+    fitting::put(b"\n\n", buffer, named)
 }
 
 // A name behind three spaces, or nothing.
@@ -67,10 +63,10 @@ fn put_name(name: &[u8], buffer: &mut [u8], at: usize) -> usize
     requires { at + 60 ≤ length buffer.old }
     ensures { Put buffer.old at (name_text name.now) buffer.new result × (result ≤ at + 60) }
 {
-    if name.len() == 0 {
+    if name.is_empty() {
         return at;
     }
-    let from = filling::put_bytes(b"   ", buffer, at);
+    let from = fitting::put(b"   ", buffer, at);
     let end = name_end(name);
     put_visible(&name[..end], buffer, from)
 }
@@ -89,9 +85,10 @@ fn hex_digit(digit: u8) -> u8
     ensures { result ≡ hex_digit digit }
 {
     if digit < 10 {
-        return 48 + digit;
+        b'0' + digit
+    } else {
+        b'a' + (digit - 10)
     }
-    87 + digit
 }
 
 // The two digits of a byte.
@@ -100,28 +97,19 @@ fn put_byte(byte: u8, buffer: &mut [u8], at: usize) -> usize
     ensures { Put buffer.old at (hex_byte byte) buffer.new result × (result ≤ at + 2) }
 {
     let digits = [hex_digit(byte / 16), hex_digit(byte % 16)];
-    filling::put_bytes(&digits, buffer, at)
+    fitting::put(&digits, buffer, at)
 }
 
-// The digits of so many bytes.
-fn put_hex(bytes: &[u8], count: usize, buffer: &mut [u8], at: usize) -> usize
-    requires { (count ≤ length bytes.now) × (at + 2 * count ≤ length buffer.old) }
-    ensures { Put buffer.old at (hex_text (take count bytes.now)) buffer.new result × (result ≤ at + 2 * count) }
+// The digits of bytes.
+fn put_hex(bytes: &[u8], buffer: &mut [u8], at: usize) -> usize
+    requires { at + 2 * length bytes.now ≤ length buffer.old }
+    ensures { Put buffer.old at (hex_text bytes.now) buffer.new result × (result ≤ at + 2 * length bytes.now) }
 {
     let mut end = at;
-    let mut i: usize = 0;
-    while i < count {
-        end = put_byte(bytes[i], buffer, end);
-        i += 1;
+    for byte in bytes {
+        end = put_byte(*byte, buffer, end);
     }
     end
-}
-
-// How many bytes of a sheet are shown.
-fn shown_bytes(length: usize) -> usize
-    ensures { result ≡ min 28 length }
-{
-    if length < SHEET { length } else { SHEET }
 }
 
 // The end of a page.
@@ -130,9 +118,10 @@ pub fn put_end(bytes: &[u8], buffer: &mut [u8], at: usize) -> usize
     ensures { Put buffer.old at (end_text bytes.now) buffer.new result × (result ≤ at + 200) }
 {
     let line = put_signature(buffer, at);
-    let hex = filling::put_bytes(b"bytes ", buffer, line);
-    let last = put_hex(bytes, shown_bytes(bytes.len()), buffer, hex);
-    filling::put_bytes(b"\n\x0c", buffer, last)
+    let hex = fitting::put(b"bytes ", buffer, line);
+    let shown = bytes.len().min(SHEET);
+    let last = put_hex(&bytes[..shown], buffer, hex);
+    fitting::put(b"\n\x0c", buffer, last)
 }
 
 // An empty line, and the line for name, date and signature.
@@ -140,7 +129,7 @@ pub fn put_signature(buffer: &mut [u8], at: usize) -> usize
     requires { at + 74 ≤ length buffer.old }
     ensures { Put buffer.old at signature_text buffer.new result × (result ≤ at + 74) }
 {
-    filling::put_bytes(
+    fitting::put(
         b"\nname ____________________  date __________  signature __________________\n",
         buffer,
         at,

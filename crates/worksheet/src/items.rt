@@ -5,6 +5,7 @@ ghost use Rattle.worksheet.specs.Items.{item_line};
 
 use crate::filling;
 use blanks::Figure;
+use lines::fitting;
 
 // A line of an item, behind its first 27 bytes.
 pub fn put_item(
@@ -18,16 +19,16 @@ pub fn put_item(
     requires { (length front.now ≤ 27) × (at + 200 ≤ length buffer.old) }
     ensures { Put buffer.old at (item_line front.now words tenths beam) buffer.new result × (result ≤ at + 200) }
 {
-    let middle = filling::put_bytes(front, buffer, at);
+    let middle = fitting::put(front, buffer, at);
     let tenths_of_cm = tenths as u64 * beam as u64;
     filling::put_worded(
         b"%O  %6  %7.%0\n",
-        filling::four(
+        &[
             Figure::Word(0),
-            filling::wide(tenths),
+            Figure::Count(u64::from(tenths)),
             Figure::Count(tenths_of_cm / 10),
             Figure::Count(tenths_of_cm % 10),
-        ),
+        ],
         &words,
         buffer,
         middle,

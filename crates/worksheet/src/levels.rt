@@ -5,9 +5,10 @@ ghost use Rattle.worksheet.specs.Levels.{steps_text, no_level_text, record_part,
 
 use crate::filling;
 use blanks::Figure;
-use gauge::{LevelFault, LevelSteps};
-use sheet::LevelSource;
 use datum::Level;
+use gauge::{LevelFault, LevelSteps};
+use lines::fitting;
+use sheet::LevelSource;
 
 // How far the level is read where there is none.
 fn put_no_level(fault: LevelFault, steps: LevelSteps, buffer: &mut [u8], at: usize) -> usize
@@ -15,21 +16,21 @@ fn put_no_level(fault: LevelFault, steps: LevelSteps, buffer: &mut [u8], at: usi
     ensures { Put buffer.old at (no_level_text fault steps) buffer.new result × (result ≤ at + 600) }
 {
     match fault {
-        LevelFault::WrongTable => { filling::put_bytes(b"  no readings are taken\n", buffer, at) }
+        LevelFault::WrongTable => { fitting::put(b"  no readings are taken\n", buffer, at) }
         LevelFault::TooFewReadings => filling::put(
             b"  readings %0\n",
-            filling::one(Figure::Count(steps.readings)),
+            &[Figure::Count(steps.readings)],
             buffer,
             at,
         ),
         LevelFault::RangeTooWide => filling::put(
             b"  readings %0   H50 %0   H100 %0   D %0\n",
-            filling::four(
+            &[
                 Figure::Count(steps.readings),
                 filling::level_figure(steps.half),
                 filling::level_figure(steps.whole),
-                filling::short(steps.range),
-            ),
+                Figure::Count(u64::from(steps.range)),
+            ],
             buffer,
             at,
         ),
@@ -37,21 +38,26 @@ fn put_no_level(fault: LevelFault, steps: LevelSteps, buffer: &mut [u8], at: usi
 }
 
 // The steps to a level.
-fn put_steps(read: Result<Level, LevelFault>, steps: LevelSteps, buffer: &mut [u8], at: usize) -> usize
+fn put_steps(
+    read: Result<Level, LevelFault>,
+    steps: LevelSteps,
+    buffer: &mut [u8],
+    at: usize,
+) -> usize
     requires { at + 1000 ≤ length buffer.old }
     ensures { Put buffer.old at (steps_text read steps) buffer.new result × (result ≤ at + 1000) }
 {
     match read {
         Ok(level) => filling::put(
             b"  readings %0   H50 %0   H100 %0   D %0   D takes H%0\n  design level %0 cm\n",
-            filling::six(
+            &[
                 Figure::Count(steps.readings),
                 filling::level_figure(steps.half),
                 filling::level_figure(steps.whole),
-                filling::short(steps.range),
-                filling::small(steps.frequency),
+                Figure::Count(u64::from(steps.range)),
+                Figure::Count(u64::from(steps.frequency)),
                 filling::level_figure(level),
-            ),
+            ],
             buffer,
             at,
         ),
@@ -64,9 +70,8 @@ fn put_record(steps: LevelSteps, buffer: &mut [u8], at: usize) -> usize
     requires { at + 1040 ≤ length buffer.old }
     ensures { Put buffer.old at (record_part steps) buffer.new result × (result ≤ at + 1040) }
 {
-    let head = filling::put_bytes(b"LEVEL above chart datum, off the record\n", buffer, at);
-    let read = steps.read;
-    put_steps(read, steps, buffer, head)
+    let head = fitting::put(b"LEVEL above chart datum, off the record\n", buffer, at);
+    put_steps(steps.read, steps, buffer, head)
 }
 
 // The part of the level.
@@ -77,7 +82,7 @@ pub fn put_level(source: LevelSource, steps: LevelSteps, buffer: &mut [u8], at: 
     match source {
         LevelSource::Given(level) => filling::put(
             b"LEVEL above chart datum, given on the sheet\n  design level %0 cm\n",
-            filling::one(filling::level_figure(level)),
+            &[filling::level_figure(level)],
             buffer,
             at,
         ),

@@ -7,8 +7,8 @@ ghost use Rattle.worksheet.specs.Framing.{page_bytes};
 ghost use Rattle.worksheet.specs.Pages.{page_text};
 ghost use Rattle.worksheet.specs.Routes.{none_yet, with_stretch, route_head, stretch_text, foot_text};
 
-use gauge::LevelSteps;
 use design::{Figures, Reason};
+use gauge::LevelSteps;
 
 mod bends;
 mod classes;
@@ -81,7 +81,12 @@ pub fn put_route_head(buffer: &mut [u8], at: usize) -> usize
 }
 
 // Puts the line of a stretch likewise, behind the head of a new page where one begins.
-pub fn put_stretch(index: u64, answer: Result<Figures, Reason>, buffer: &mut [u8], at: usize) -> usize
+pub fn put_stretch(
+    index: u64,
+    answer: Result<Figures, Reason>,
+    buffer: &mut [u8],
+    at: usize,
+) -> usize
     ensures { (result ≡ place_within page_bytes (stretch_text index answer) at buffer.old) × (buffer.new ≡ buffer_within page_bytes (stretch_text index answer) at buffer.old) }
 {
     if !lines::fits(buffer.len(), at, PAGE_BYTES) {

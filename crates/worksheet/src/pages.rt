@@ -2,7 +2,7 @@
 ghost use Rattle.std.specs.Prelude.{◌≡◌, ◌+◌, ◌≤◌, length};
 ghost use Rattle.lines.specs.Lines.{Put};
 ghost use Rattle.design.specs.Design.{lanes_for};
-ghost use Rattle.worksheet.specs.Pages.{level_at, front_text, bend_for, section_for, sized_text, sized_by, entries_for, sizes_text, answered_parts, no_level_parts, no_width_parts, no_depth_parts, section_by, no_section, no_speed_parts, refused_parts, answer_parts, sheet_parts, body_by, page_text};
+ghost use Rattle.worksheet.specs.Pages.{level_at, front_text, bend_for, section_for, sized_text, sized_by, entries_for, sizes_text, answered_parts, no_level_parts, no_width_parts, no_depth_parts, section_by, no_speed_parts, refused_parts, answer_parts, sheet_parts, body_by, page_text};
 
 use crate::{bends, classes, depths, framing, levels, refusals, rows, speeds, traffic, widths};
 use datum::{BelowLevel, Level};
@@ -14,14 +14,19 @@ use sheet::{LevelSource, ReadFault, Sheet};
 use speed::{Section, SpeedFault};
 use width::{Entries, WidthFault};
 
+// The section of a sheet that has no depth or no entries.
+const NO_SECTION: Section = Section {
+    natural: BelowLevel(0),
+    cut: BelowLevel(0),
+    width: 0,
+    slope: 0,
+};
+
 // The level of a sheet that has one.
 fn level_at(source: LevelSource, read: Result<Level, LevelFault>) -> Level
     ensures { result ≡ level_at source read }
 {
-    match working::level_for(source, read) {
-        Ok(level) => level,
-        Err(_) => Level(0),
-    }
+    working::level_for(source, read).unwrap_or(Level(0))
 }
 
 // The lanes of a sheet.
@@ -36,8 +41,7 @@ fn put_front(sheet: Sheet, steps: LevelSteps, buffer: &mut [u8], at: usize) -> u
     requires { at + 2040 ≤ length buffer.old }
     ensures { Put buffer.old at (front_text sheet steps) buffer.new result × (result ≤ at + 2040) }
 {
-    let source = sheet.level;
-    let level = levels::put_level(source, steps, buffer, at);
+    let level = levels::put_level(sheet.level, steps, buffer, at);
     traffic::put_lanes(
         sheet.lanes,
         sheet.channel,
@@ -74,10 +78,8 @@ fn section_for(
 ) -> Section
     ensures { result ≡ section_for sheet level lanes entries found }
 {
-    let sailing = found.sailing;
-    let width = width::width_of(working::width_stretch(sheet, lanes, sailing), entries);
-    let cut = found.cut;
-    working::section_of(sheet, level, width, cut)
+    let width = width::width_of(working::width_stretch(sheet, lanes, found.sailing), entries);
+    working::section_of(sheet, level, width, found.cut)
 }
 
 // The width, the bend and the speed of a sheet that has a depth.
@@ -93,12 +95,10 @@ fn put_sized(
     requires { at + 7900 ≤ length buffer.old }
     ensures { Put buffer.old at (sized_text sheet level lanes entries found) buffer.new result × (result ≤ at + 7900) }
 {
-    let sailing = found.sailing;
-    let cross = sheet.cross;
     let across = widths::put_width(
-        working::width_stretch(sheet, lanes, sailing),
+        working::width_stretch(sheet, lanes, found.sailing),
         entries,
-        cross,
+        sheet.cross,
         sheet.wave,
         buffer,
         at,
@@ -121,12 +121,9 @@ fn put_sized_by(
     requires { at + 7900 ≤ length buffer.old }
     ensures { Put buffer.old at (sized_by sheet level lanes entries depth) buffer.new result × (result ≤ at + 7900) }
 {
-    match entries {
-        Err(WidthFault::NoWidthEntry) => at,
-        Ok(entered) => match depth {
-            Err(_) => at,
-            Ok(found) => put_sized(sheet, level, lanes, entered, found, buffer, at),
-        },
+    match (entries, depth) {
+        (Ok(entered), Ok(found)) => put_sized(sheet, level, lanes, entered, found, buffer, at),
+        _ => at,
     }
 }
 
@@ -134,8 +131,7 @@ fn put_sized_by(
 fn entries_for(sheet: Sheet) -> Result<Entries, WidthFault>
     ensures { result ≡ entries_for sheet }
 {
-    let cross = sheet.cross;
-    width::entries_of(sheet.water, sheet.speed, cross, sheet.wave)
+    width::entries_of(sheet.water, sheet.speed, sheet.cross, sheet.wave)
 }
 
 // The depth, the width, the bend and the speed.
@@ -167,10 +163,8 @@ fn put_answered(
     requires { at + 16240 ≤ length buffer.old }
     ensures { Put buffer.old at (answered_parts sheet steps figures) buffer.new result × (result ≤ at + 16240) }
 {
-    let level = figures.level;
-    let lanes = figures.lanes;
     let front = put_front(sheet, steps, buffer, at);
-    let sizes = put_sizes(sheet, level, lanes, buffer, front);
+    let sizes = put_sizes(sheet, figures.level, figures.lanes, buffer, front);
     classes::put_classes(sheet.deadweight, figures, buffer, sizes)
 }
 
@@ -185,8 +179,7 @@ fn put_no_level(
     requires { at + 2440 ≤ length buffer.old }
     ensures { Put buffer.old at (no_level_parts sheet steps fault) buffer.new result × (result ≤ at + 2440) }
 {
-    let source = sheet.level;
-    let level = levels::put_level(source, steps, buffer, at);
+    let level = levels::put_level(sheet.level, steps, buffer, at);
     refusals::put_no_level(fault, steps, buffer, level)
 }
 
@@ -204,8 +197,15 @@ fn put_no_width(
     let front = put_front(sheet, steps, buffer, at);
     let bend = put_bend(sheet, lanes_for(sheet), buffer, front);
     let least = width::least_radius(sheet.turn, sheet.length);
-    let cross = sheet.cross;
-    refusals::put_no_width(fault, least, sheet.radius, cross, sheet.wave, buffer, bend)
+    refusals::put_no_width(
+        fault,
+        least,
+        sheet.radius,
+        sheet.cross,
+        sheet.wave,
+        buffer,
+        bend,
+    )
 }
 
 // 13, 14 and 15.
@@ -220,9 +220,7 @@ fn put_no_depth(
     ensures { Put buffer.old at (no_depth_parts sheet steps fault) buffer.new result × (result ≤ at + 9040) }
 {
     let lanes = lanes_for(sheet);
-    let source = sheet.level;
-    let read = steps.read;
-    let level = level_at(source, read);
+    let level = level_at(sheet.level, steps.read);
     let stretch = working::depth_stretch(sheet, level, lanes);
     let front = put_front(sheet, steps, buffer, at);
     let depth = depths::put_depth(stretch, level, buffer, front);
@@ -240,23 +238,9 @@ fn section_by(
 ) -> Section
     ensures { result ≡ section_by sheet level lanes entries depth }
 {
-    match entries {
-        Err(WidthFault::NoWidthEntry) => no_section(),
-        Ok(entered) => match depth {
-            Err(_) => no_section(),
-            Ok(found) => section_for(sheet, level, lanes, entered, found),
-        },
-    }
-}
-
-fn no_section() -> Section
-    ensures { result ≡ no_section }
-{
-    Section {
-        natural: BelowLevel(0),
-        cut: BelowLevel(0),
-        width: 0,
-        slope: 0,
+    match (entries, depth) {
+        (Ok(entered), Ok(found)) => section_for(sheet, level, lanes, entered, found),
+        _ => NO_SECTION,
     }
 }
 
@@ -272,9 +256,7 @@ fn put_no_speed(
     ensures { Put buffer.old at (no_speed_parts sheet steps fault) buffer.new result × (result ≤ at + 17040) }
 {
     let lanes = lanes_for(sheet);
-    let source = sheet.level;
-    let read = steps.read;
-    let level = level_at(source, read);
+    let level = level_at(sheet.level, steps.read);
     let front = put_front(sheet, steps, buffer, at);
     let sizes = put_sizes(sheet, level, lanes, buffer, front);
     let depth = depth::work_depth(working::depth_stretch(sheet, level, lanes));
@@ -322,7 +304,13 @@ fn put_answer(
 }
 
 // A sheet and what its design comes to.
-fn put_sheet(sheet: Sheet, steps: LevelSteps, answer: Result<Figures, Reason>, buffer: &mut [u8], at: usize) -> usize
+fn put_sheet(
+    sheet: Sheet,
+    steps: LevelSteps,
+    answer: Result<Figures, Reason>,
+    buffer: &mut [u8],
+    at: usize,
+) -> usize
     requires { at + 19940 ≤ length buffer.old }
     ensures { Put buffer.old at (sheet_parts sheet steps answer) buffer.new result × (result ≤ at + 19940) }
 {
@@ -360,8 +348,7 @@ pub fn put_whole(
     requires { at + 24576 ≤ length buffer.old }
     ensures { Put buffer.old at (page_text index name.now bytes.now steps) buffer.new result }
 {
-    let read = steps.read;
-    let answer = design::design_at(bytes, read);
+    let answer = design::design_at(bytes, steps.read);
     let head = framing::put_head(index, name, buffer, at);
     let body = put_body(sheet::read(bytes), bytes.len(), steps, answer, buffer, head);
     framing::put_end(bytes, buffer, body)

@@ -1,13 +1,14 @@
 // Why a sheet is turned away, and what it would need to pass (definition, section 15.12).
 ghost use Rattle.std.specs.Prelude.{◌≡◌, ◌+◌, ◌*◌, ◌≤◌, ◌<◌, length};
 ghost use Rattle.lines.specs.Lines.{Put};
-ghost use Rattle.worksheet.specs.Refusals.{row_of_field, values_of_field, may_hold, field_note, bad_field, no_sheet_text, no_ship_text, no_level_text, no_width_text, last_of, silt_text, no_cut_text, no_depth_text, too_fast_text, no_speed_text};
+ghost use Rattle.worksheet.specs.Refusals.{row_of_field, values_of_field, may_hold, field_note, bad_field, no_sheet_text, no_ship_text, no_level_text, no_width_text, silt_text, no_cut_text, no_depth_text, too_fast_text, no_speed_text};
 
 use crate::filling;
 use blanks::Figure;
 use datum::CrossCurrent;
-use depth::{DepthFault, Try, Worksheet};
+use depth::{DepthFault, Try};
 use gauge::{LevelFault, LevelSteps};
+use lines::fitting;
 use sheet::{Range, ReadFault};
 use speed::{Section, SpeedFault};
 use width::WidthFault;
@@ -16,32 +17,24 @@ use width::WidthFault;
 fn row_of_field(field: u8) -> usize
     ensures { (result ≡ row_of_field field) × (result < 28) }
 {
-    if field == 0 {
-        return 0;
+    match field {
+        0..=26 => (field as usize).saturating_sub(1),
+        27..=28 => typed::LEVEL,
+        _ => typed::LEVEL + 1,
     }
-    if field <= 26 {
-        return field as usize - 1;
-    }
-    if field <= 28 {
-        return 26;
-    }
-    27
 }
 
 // The least and the greatest figure of its row; a level's are those that are given.
 fn values_of_field(field: u8) -> Range
     ensures { result ≡ values_of_field field }
 {
-    if row_of_field(field) == 26 {
+    if row_of_field(field) == typed::LEVEL {
         return Range {
             least: 1,
             greatest: 2001,
         };
     }
-    if field == 0 {
-        return sheet::range_of(0);
-    }
-    sheet::range_of(field as usize - 1)
+    sheet::range_of((field as usize).saturating_sub(1))
 }
 
 // What a field may hold.
@@ -52,9 +45,9 @@ fn put_may_hold(field: u8, buffer: &mut [u8], at: usize) -> usize
     let row = row_of_field(field);
     let values = values_of_field(field);
     let first = filling::put_line(row, values.least, buffer, at);
-    let second = filling::put_bytes(b" .. ", buffer, first);
+    let second = fitting::put(b" .. ", buffer, first);
     let last = filling::put_line(row, values.greatest, buffer, second);
-    filling::put_bytes(b"\n", buffer, last)
+    fitting::put(b"\n", buffer, last)
 }
 
 // What else makes a field bad.
@@ -62,13 +55,11 @@ fn put_field_note(field: u8, buffer: &mut [u8], at: usize) -> usize
     requires { at + 50 ≤ length buffer.old }
     ensures { Put buffer.old at (field_note field) buffer.new result × (result ≤ at + 50) }
 {
-    if field == 26 {
-        return filling::put_bytes(b"  turn and radius are both 0, or neither\n", buffer, at);
+    match field {
+        26 => fitting::put(b"  turn and radius are both 0, or neither\n", buffer, at),
+        28 => fitting::put(b"  a level off the record has no figure\n", buffer, at),
+        _ => at,
     }
-    if field == 28 {
-        return filling::put_bytes(b"  a level off the record has no figure\n", buffer, at);
-    }
-    at
 }
 
 fn put_bad_field(field: u8, buffer: &mut [u8], at: usize) -> usize
@@ -77,7 +68,7 @@ fn put_bad_field(field: u8, buffer: &mut [u8], at: usize) -> usize
 {
     let head = filling::put(
         b"REFUSED 3: field %0 is bad\n  it may hold ",
-        filling::one(filling::small(field)),
+        &[Figure::Count(u64::from(field))],
         buffer,
         at,
     );
@@ -93,11 +84,11 @@ pub fn put_no_sheet(fault: ReadFault, bytes: usize, buffer: &mut [u8], at: usize
     match fault {
         ReadFault::WrongLength => filling::put(
             b"REFUSED 1: not 28 bytes\n  there are %0\n",
-            filling::one(Figure::Count(bytes as u64)),
+            &[Figure::Count(bytes as u64)],
             buffer,
             at,
         ),
-        ReadFault::SpareBitSet => filling::put_bytes(
+        ReadFault::SpareBitSet => fitting::put(
             b"REFUSED 2: a spare bit is set\n  the last 7 bits of a sheet are 0\n",
             buffer,
             at,
@@ -113,7 +104,10 @@ pub fn put_no_ship(ship: u16, beam: u16, buffer: &mut [u8], at: usize) -> usize
 {
     filling::put(
         b"REFUSED 18: the length is under three beams\n  length %0 cm, three beams %0 cm: they may have changed places\n",
-        filling::two(filling::short(ship), filling::wide(3 * (beam as u32))),
+        &[
+            Figure::Count(u64::from(ship)),
+            Figure::Count(u64::from(3 * (beam as u32))),
+        ],
         buffer,
         at,
     )
@@ -125,20 +119,20 @@ pub fn put_no_level(fault: LevelFault, steps: LevelSteps, buffer: &mut [u8], at:
     ensures { Put buffer.old at (no_level_text fault steps) buffer.new result × (result ≤ at + 1400) }
 {
     match fault {
-        LevelFault::WrongTable => filling::put_bytes(
+        LevelFault::WrongTable => fitting::put(
             b"REFUSED 4: a slot of the record is over its limit\n  a slot holds at most 1000000 readings\n",
             buffer,
             at,
         ),
         LevelFault::TooFewReadings => filling::put(
             b"REFUSED 5: under 26280 readings in the record\n  it has %0\n",
-            filling::one(Figure::Count(steps.readings)),
+            &[Figure::Count(steps.readings)],
             buffer,
             at,
         ),
         LevelFault::RangeTooWide => filling::put(
             b"REFUSED 6: the range D of the levels is over 140 cm\n  D is %0 cm; the procedure asks for an economic study\n",
-            filling::one(filling::short(steps.range)),
+            &[Figure::Count(u64::from(steps.range))],
             buffer,
             at,
         ),
@@ -161,34 +155,24 @@ pub fn put_no_width(
     match fault {
         WidthFault::BendTooTight => filling::put(
             b"REFUSED 7: the bend is too tight\n  the least radius is %0 m; the sheet has %0 m\n",
-            filling::two(filling::wide(least), filling::short(radius)),
+            &[
+                Figure::Count(u64::from(least)),
+                Figure::Count(u64::from(radius)),
+            ],
             buffer,
             at,
         ),
         WidthFault::NoWidthEntry => filling::put(
             b"REFUSED 8: no width entry\n  sheltered water has entries to 1.5 kn across and waves of 100 cm\n  the sheet has %0.%0 kn across and waves of %0 cm\n",
-            filling::three(
-                filling::small(cross.0 / 10),
-                filling::small(cross.0 % 10),
-                filling::short(wave),
-            ),
+            &[
+                Figure::Count(u64::from(cross.0 / 10)),
+                Figure::Count(u64::from(cross.0 % 10)),
+                Figure::Count(u64::from(wave)),
+            ],
             buffer,
             at,
         ),
     }
-}
-
-// The last try of a worksheet.
-pub fn last_of(worksheet: Worksheet) -> Try
-    ensures { result ≡ last_of worksheet }
-{
-    if worksheet.count <= 1 {
-        return worksheet.tries[0];
-    }
-    if worksheet.count == 2 {
-        return worksheet.tries[1];
-    }
-    worksheet.tries[2]
 }
 
 // 14: over 120, or without end.
@@ -197,17 +181,16 @@ fn put_silt(last: Try, filling: u64, buffer: &mut [u8], at: usize) -> usize
     ensures { Put buffer.old at (silt_text last filling) buffer.new result × (result ≤ at + 1300) }
 {
     if last.silt < depth::ENDLESS {
-        let column = last.column;
         return filling::put(
             b"REFUSED 14: no depth, as silt is over 120 cm\n  in column %0 it comes to %0 cm\n",
-            filling::two(filling::letter(column), Figure::Count(last.silt)),
+            &[filling::letter(last.column), Figure::Count(last.silt)],
             buffer,
             at,
         );
     }
     filling::put(
         b"REFUSED 14: no depth, as all that is dug silts up\n  silting x interval is %0; under 100000 is needed\n",
-        filling::one(Figure::Count(filling)),
+        &[Figure::Count(filling)],
         buffer,
         at,
     )
@@ -225,22 +208,21 @@ fn put_no_cut(
     requires { at + 1400 ≤ length buffer.old }
     ensures { Put buffer.old at (no_cut_text fault last knots filling) buffer.new result × (result ≤ at + 1400) }
 {
-    let column = last.column;
     match fault {
         DepthFault::NoSquatEntry => filling::put(
             b"REFUSED 13: no depth, as a column has no squat entry\n  column %0 has entries up to %0 kn; the sheet has %0 kn\n",
-            filling::three(
-                filling::letter(column),
-                filling::small(depth::fastest_entry(column)),
-                filling::small(knots),
-            ),
+            &[
+                filling::letter(last.column),
+                Figure::Count(u64::from(depth::fastest_entry(last.column))),
+                Figure::Count(u64::from(knots)),
+            ],
             buffer,
             at,
         ),
         DepthFault::SiltOver => put_silt(last, filling, buffer, at),
         DepthFault::CutOver => filling::put(
             b"REFUSED 15: no depth, as a cut is over 3000 cm\n  in column %0 it comes to %0 cm\n",
-            filling::two(filling::letter(column), Figure::Count(last.figure.0)),
+            &[filling::letter(last.column), Figure::Count(last.figure.0)],
             buffer,
             at,
         ),
@@ -256,8 +238,8 @@ pub fn put_no_depth(
     requires { at + 1400 ≤ length buffer.old }
     ensures { Put buffer.old at (no_depth_text fault stretch) buffer.new result × (result ≤ at + 1400) }
 {
-    let last = last_of(depth::fill_worksheet(stretch));
-    let filling = stretch.silting as u64 * stretch.interval as u64;
+    let last = depth::fill_worksheet(stretch).last();
+    let filling = u64::from(stretch.silting) * u64::from(stretch.interval);
     put_no_cut(fault, last, stretch.speed, filling, buffer, at)
 }
 
@@ -266,20 +248,20 @@ fn put_too_fast(fastest: Option<u64>, knots: u8, buffer: &mut [u8], at: usize) -
     requires { at + 1300 ≤ length buffer.old }
     ensures { Put buffer.old at (too_fast_text fastest knots) buffer.new result × (result ≤ at + 1300) }
 {
-    match fastest {
-        Some(hundredths) => filling::put(
-            b"REFUSED 17: the ship is too fast\n  nine tenths of the critical speed: %0.%0%0 kn; the sheet has %0 kn\n",
-            filling::four(
-                Figure::Count(hundredths / 100),
-                Figure::Count(hundredths / 10 % 10),
-                Figure::Count(hundredths % 10),
-                filling::small(knots),
-            ),
-            buffer,
-            at,
-        ),
-        None => at,
-    }
+    let Some(hundredths) = fastest else {
+        return at;
+    };
+    filling::put(
+        b"REFUSED 17: the ship is too fast\n  nine tenths of the critical speed: %0.%0%0 kn; the sheet has %0 kn\n",
+        &[
+            Figure::Count(hundredths / 100),
+            Figure::Count(hundredths / 10 % 10),
+            Figure::Count(hundredths % 10),
+            Figure::Count(u64::from(knots)),
+        ],
+        buffer,
+        at,
+    )
 }
 
 // 16 and 17.
@@ -295,22 +277,17 @@ pub fn put_no_speed(
 {
     match fault {
         SpeedFault::PointMissing => {
-            let cut = section.cut;
             filling::put(
                 b"REFUSED 16: the critical speed needs a blank or a point off its table\n  the section has width %0 cm, slope 1/%0, depth %0 cm\n  the table has 50 to 250 m, 1/4 to 1/12 and 4 to 16 m\n",
-                filling::three(
-                    filling::wide(section.width),
-                    filling::small(section.slope),
-                    filling::short(cut.0),
-                ),
+                &[
+                    Figure::Count(u64::from(section.width)),
+                    Figure::Count(u64::from(section.slope)),
+                    Figure::Count(u64::from(section.cut.0)),
+                ],
                 buffer,
                 at,
             )
         }
-        SpeedFault::TooFast => {
-            let parts = speed::parts_of(section);
-            let fastest = parts.fastest;
-            put_too_fast(fastest, knots, buffer, at)
-        }
+        SpeedFault::TooFast => { put_too_fast(speed::parts_of(section).fastest, knots, buffer, at) }
     }
 }

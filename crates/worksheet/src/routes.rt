@@ -1,11 +1,12 @@
 // The pages of the route: its stretches in a table, and the end (definition, section 15.13).
 ghost use Rattle.std.specs.Prelude.{◌≡◌, ◌+◌, ◌≤◌, ◌<◌, length};
 ghost use Rattle.lines.specs.Lines.{Put};
-ghost use Rattle.worksheet.specs.Routes.{greater_of, with_figures, route_head, new_page, answered_line, line_by, stretch_text, greatest_figure, foot_text};
+ghost use Rattle.worksheet.specs.Routes.{with_figures, route_head, new_page, answered_line, line_by, stretch_text, greatest_figure, foot_text};
 
 use crate::{Greatest, Readings, Totals, filling, framing};
 use blanks::Figure;
 use design::{Figures, Reason};
+use lines::fitting;
 
 // The lines of a page of the route.
 const LINES: u64 = 50;
@@ -17,7 +18,7 @@ pub fn put_head(page: u64, buffer: &mut [u8], at: usize) -> usize
 {
     filling::put(
         b"CHANNEL WORKSHEET   the route, page %0\n\n  sheet  code   level  lanes   cut  datum    width  widening  class\n",
-        filling::one(Figure::Count(page)),
+        &[Figure::Count(page)],
         buffer,
         at,
     )
@@ -34,7 +35,7 @@ fn put_new_page(index: u64, buffer: &mut [u8], at: usize) -> usize
     if (index - 1) % LINES != 0 {
         return at;
     }
-    let feed = filling::put_bytes(b"\x0c", buffer, at);
+    let feed = fitting::put(b"\x0c", buffer, at);
     put_head((index - 1) / LINES + 1, buffer, feed)
 }
 
@@ -43,30 +44,26 @@ fn put_answered(index: u64, figures: Figures, buffer: &mut [u8], at: usize) -> u
     requires { at + 450 ≤ length buffer.old }
     ensures { Put buffer.old at (answered_line index figures) buffer.new result × (result ≤ at + 450) }
 {
-    let lanes = figures.lanes;
-    let cut = figures.cut;
-    let datum = figures.datum;
-    let classes = figures.classes;
     let front = filling::put(
         b"%7  %4  %6  %5",
-        filling::four(
+        &[
             Figure::Count(index),
             Figure::Count(0),
             filling::level_figure(figures.level),
-            filling::small(lanes::lane_count(lanes)),
-        ),
+            Figure::Count(u64::from(lanes::lane_count(figures.lanes))),
+        ],
         buffer,
         at,
     );
     filling::put(
         b"  %4  %5  %7  %8  %5\n",
-        filling::five(
-            filling::short(cut.0),
-            Figure::Signed(datum.0),
+        &[
+            Figure::Count(u64::from(figures.cut.0)),
+            Figure::Signed(figures.datum.0),
             Figure::Signed(figures.width),
             Figure::Signed(figures.widening),
-            filling::small(classes.ship),
-        ),
+            Figure::Count(u64::from(figures.classes.ship)),
+        ],
         buffer,
         front,
     )
@@ -81,7 +78,10 @@ fn put_by(index: u64, answer: Result<Figures, Reason>, buffer: &mut [u8], at: us
         Ok(figures) => put_answered(index, figures, buffer, at),
         Err(_) => filling::put(
             b"%7  %4  refused\n",
-            filling::two(Figure::Count(index), filling::small(design::code(answer))),
+            &[
+                Figure::Count(index),
+                Figure::Count(u64::from(design::code(answer))),
+            ],
             buffer,
             at,
         ),
@@ -104,7 +104,7 @@ fn greatest_figure(answered: u64, figure: u32) -> Figure
     if answered == 0 {
         return Figure::Nothing;
     }
-    Figure::Count(figure as u64)
+    Figure::Count(u64::from(figure))
 }
 
 // The end of the route.
@@ -121,54 +121,42 @@ pub fn put_foot(
     let answered = totals.answered;
     let sheets = filling::put(
         b"\n  sheets %0, answered %0, class of the route %0\n",
-        filling::three(
+        &[
             Figure::Count(totals.sheets),
             Figure::Count(answered),
-            filling::small(totals.class),
-        ),
+            Figure::Count(u64::from(totals.class)),
+        ],
         buffer,
         at,
     );
     let most = filling::put(
         b"  greatest cut %0 cm, greatest width %0 cm\n",
-        filling::two(
-            greatest_figure(answered, greatest.cut as u32),
+        &[
+            greatest_figure(answered, u32::from(greatest.cut)),
             greatest_figure(answered, greatest.width),
-        ),
+        ],
         buffer,
         sheets,
     );
     let record = filling::put(
         b"  record: readings added %0, missing %0, refused %0\n",
-        filling::three(
+        &[
             Figure::Count(readings.added),
             Figure::Count(readings.missing),
             Figure::Count(readings.refused),
-        ),
+        ],
         buffer,
         most,
     );
     framing::put_signature(buffer, record)
 }
 
-// The greater of two figures.
-fn greater_of(one: u32, other: u32) -> u32
-    ensures { result ≡ greater_of one other }
-{
-    if one < other { other } else { one }
-}
-
 // With one more stretch that is answered.
 pub fn greater(greatest: Greatest, figures: Figures) -> Greatest
     ensures { result ≡ with_figures greatest figures }
 {
-    let cut = figures.cut;
-    let width = greater_of(greatest.width, filling::unsigned(figures.width));
-    if greatest.cut < cut.0 {
-        return Greatest { cut: cut.0, width };
-    }
     Greatest {
-        cut: greatest.cut,
-        width,
+        cut: greatest.cut.max(figures.cut.0),
+        width: greatest.width.max(filling::unsigned(figures.width)),
     }
 }

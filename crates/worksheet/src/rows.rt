@@ -4,11 +4,12 @@ ghost use Rattle.lines.specs.Lines.{Put};
 ghost use Rattle.worksheet.specs.Rows.{row_text, pair_text, pairs_text, rows_part};
 
 use crate::filling;
+use lines::fitting;
 
 // The bytes of the left column.
 const COLUMN: usize = 36;
 
-const SPACES: [u8; 36] = [32; 36];
+const SPACES: [u8; COLUMN] = [b' '; COLUMN];
 
 // The lines of the two columns.
 const LINES: usize = 14;
@@ -21,26 +22,16 @@ fn put_row(figures: [u32; sheet::COUNT], i: usize, buffer: &mut [u8], at: usize)
     filling::put_line(i, texts::row_figure(figures, i), buffer, at)
 }
 
-// The spaces that a line lacks of the left column.
-fn lacking(line: usize) -> usize
-    ensures { (result ≡ 36 - line) × (result ≤ 36) }
-{
-    if line < COLUMN {
-        return COLUMN - line;
-    }
-    0
-}
-
 // A row, and the fourteenth behind it.
 fn put_pair(figures: [u32; sheet::COUNT], i: usize, buffer: &mut [u8], at: usize) -> usize
     requires { (i < 14) × (at + 200 ≤ length buffer.old) }
     ensures { Put buffer.old at (pair_text figures i) buffer.new result × (result ≤ at + 200) }
 {
     let left = put_row(figures, i, buffer, at);
-    let spaces = lacking(left - at);
-    let middle = filling::put_bytes(&SPACES[..spaces], buffer, left);
+    let spaces = COLUMN.saturating_sub(left - at);
+    let middle = fitting::put(&SPACES[..spaces], buffer, left);
     let right = put_row(figures, i + LINES, buffer, middle);
-    filling::put_bytes(b"\n", buffer, right)
+    fitting::put(b"\n", buffer, right)
 }
 
 // The rows of a sheet, and an empty line.
@@ -49,7 +40,7 @@ pub fn put_rows(figures: [u32; sheet::COUNT], buffer: &mut [u8], at: usize) -> u
     ensures { Put buffer.old at (rows_part figures) buffer.new result × (result ≤ at + 2900) }
 {
     let last = put_pairs(figures, buffer, at);
-    filling::put_bytes(b"\n", buffer, last)
+    fitting::put(b"\n", buffer, last)
 }
 
 fn put_pairs(figures: [u32; sheet::COUNT], buffer: &mut [u8], at: usize) -> usize
@@ -57,10 +48,8 @@ fn put_pairs(figures: [u32; sheet::COUNT], buffer: &mut [u8], at: usize) -> usiz
     ensures { Put buffer.old at (pairs_text figures 0 14) buffer.new result × (result ≤ at + 2899) }
 {
     let mut end = at;
-    let mut i: usize = 0;
-    while i < LINES {
+    for i in 0..LINES {
         end = put_pair(figures, i, buffer, end);
-        i += 1;
     }
     end
 }

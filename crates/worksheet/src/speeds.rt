@@ -12,20 +12,20 @@ fn put_fastest(fastest: Option<u64>, knots: u8, buffer: &mut [u8], at: usize) ->
     requires { at + 800 ≤ length buffer.old }
     ensures { Put buffer.old at (fastest_text fastest knots) buffer.new result × (result ≤ at + 800) }
 {
-    match fastest {
-        Some(hundredths) => filling::put(
-            b"  nine tenths of it, rounded down: %0.%0%0 kn; the ship: %0 kn\n",
-            filling::four(
-                Figure::Count(hundredths / 100),
-                Figure::Count(hundredths / 10 % 10),
-                Figure::Count(hundredths % 10),
-                filling::small(knots),
-            ),
-            buffer,
-            at,
-        ),
-        None => at,
-    }
+    let Some(hundredths) = fastest else {
+        return at;
+    };
+    filling::put(
+        b"  nine tenths of it, rounded down: %0.%0%0 kn; the ship: %0 kn\n",
+        &[
+            Figure::Count(hundredths / 100),
+            Figure::Count(hundredths / 10 % 10),
+            Figure::Count(hundredths % 10),
+            Figure::Count(u64::from(knots)),
+        ],
+        buffer,
+        at,
+    )
 }
 
 // V', V'', h and the joined speed.
@@ -33,19 +33,16 @@ fn put_parts(slope: u8, cut: u16, parts: SpeedParts, buffer: &mut [u8], at: usiz
     requires { at + 1200 ≤ length buffer.old }
     ensures { Put buffer.old at (parts_text slope cut parts) buffer.new result × (result ≤ at + 1200) }
 {
-    let shallow = parts.shallow;
-    let full = parts.full;
-    let critical = parts.critical;
     filling::put(
         b"SPEED at side slopes of 1/%0\n  V' %0 mm/s   V'' %0 mm/s   h %0 of %0 cm   critical %0 mm/s\n",
-        filling::six(
-            filling::small(slope),
-            filling::speed_figure(shallow),
-            filling::speed_figure(full),
-            filling::short(parts.dug),
-            filling::short(cut),
-            filling::speed_figure(critical),
-        ),
+        &[
+            Figure::Count(u64::from(slope)),
+            filling::count_or_none(parts.shallow),
+            filling::count_or_none(parts.full),
+            Figure::Count(u64::from(parts.dug)),
+            Figure::Count(u64::from(cut)),
+            filling::count_or_none(parts.critical),
+        ],
         buffer,
         at,
     )
@@ -59,9 +56,7 @@ pub fn put_speed(section: Section, knots: u8, buffer: &mut [u8], at: usize) -> u
     if section.slope == 0 {
         return at;
     }
-    let cut = section.cut;
     let parts = speed::parts_of(section);
-    let fastest = parts.fastest;
-    let end = put_parts(section.slope, cut.0, parts, buffer, at);
-    put_fastest(fastest, knots, buffer, end)
+    let end = put_parts(section.slope, section.cut.0, parts, buffer, at);
+    put_fastest(parts.fastest, knots, buffer, end)
 }

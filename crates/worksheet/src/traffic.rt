@@ -6,6 +6,7 @@ ghost use Rattle.worksheet.specs.Traffic.{greater_text, traffic_text, lanes_part
 use crate::filling;
 use blanks::Figure;
 use lanes::Sides;
+use lines::fitting;
 
 // Which side is greater, and the lanes that it comes to.
 fn put_greater(sides: Sides, buffer: &mut [u8], at: usize) -> usize
@@ -13,12 +14,12 @@ fn put_greater(sides: Sides, buffer: &mut [u8], at: usize) -> usize
     ensures { Put buffer.old at (greater_text sides) buffer.new result × (result ≤ at + 40) }
 {
     if sides.traffic < sides.limit {
-        return filling::put_bytes(b"  the second is greater: one lane\n", buffer, at);
+        return fitting::put(b"  the second is greater: one lane\n", buffer, at);
     }
     if sides.traffic == sides.limit {
-        return filling::put_bytes(b"  they are equal: two lanes\n", buffer, at);
+        return fitting::put(b"  they are equal: two lanes\n", buffer, at);
     }
-    filling::put_bytes(b"  the first is greater: two lanes\n", buffer, at)
+    fitting::put(b"  the first is greater: two lanes\n", buffer, at)
 }
 
 // Both sides of the rule.
@@ -28,7 +29,7 @@ fn put_sides(sides: Sides, buffer: &mut [u8], at: usize) -> usize
 {
     let both = filling::put(
         b"LANES by the traffic\n  channel m x ships in hundredths %0, 4444800 x knots %0\n",
-        filling::two(Figure::Count(sides.traffic), Figure::Count(sides.limit)),
+        &[Figure::Count(sides.traffic), Figure::Count(sides.limit)],
         buffer,
         at,
     );
@@ -48,10 +49,10 @@ pub fn put_lanes(
     ensures { Put buffer.old at (lanes_part named channel ships knots) buffer.new result × (result ≤ at + 1000) }
 {
     if named == 1 {
-        return filling::put_bytes(b"LANES named on the sheet\n  one lane\n", buffer, at);
+        return fitting::put(b"LANES named on the sheet\n  one lane\n", buffer, at);
     }
     if named == 2 {
-        return filling::put_bytes(b"LANES named on the sheet\n  two lanes\n", buffer, at);
+        return fitting::put(b"LANES named on the sheet\n  two lanes\n", buffer, at);
     }
     put_sides(lanes::sides_of(channel, ships, knots), buffer, at)
 }

@@ -36,11 +36,13 @@ fn put_head(beam: u16, entries: Entries, buffer: &mut [u8], at: usize) -> usize
     requires { at + 1600 ≤ length buffer.old }
     ensures { Put buffer.old at (width_head beam entries) buffer.new result × (result ≤ at + 1600) }
 {
-    let band = entries.band;
-    let water = entries.water;
     filling::put_worded(
         b"WIDTH in tenths of the beam, %0 cm: %0 speed, %0 water\n  annex A  item            band                      tenths         cm\n",
-        filling::three(filling::short(beam), band_word(band), water_word(water)),
+        &[
+            Figure::Count(u64::from(beam)),
+            band_word(entries.band),
+            water_word(entries.water),
+        ],
         &HEAD_WORDS,
         buffer,
         at,
@@ -60,7 +62,6 @@ fn put_ship_items(
     ensures { Put buffer.old at (ship_items stretch items cross wave) buffer.new result × (result ≤ at + 1000) }
 {
     let beam = stretch.beam;
-    let along = stretch.along;
     let lane = items::put_item(
         b"  WBM      lane            ",
         words::handling_words(stretch.handling),
@@ -87,7 +88,7 @@ fn put_ship_items(
     );
     let alongside = items::put_item(
         b"  (d)      along current   ",
-        words::along_words(along),
+        words::along_words(stretch.along),
         items.along as u32,
         beam,
         buffer,
@@ -237,11 +238,11 @@ fn put_sum(stretch: Stretch, entries: Entries, items: Items, buffer: &mut [u8], 
     let lanes = stretch.lanes;
     filling::put(
         b"  sum %0 tenths x beam %0 cm / 10, rounded up: width %0 cm\n",
-        filling::three(
-            filling::short(width::tenths_of(items, lanes)),
-            filling::short(stretch.beam),
-            filling::wide(width::width_of(stretch, entries)),
-        ),
+        &[
+            Figure::Count(u64::from(width::tenths_of(items, lanes))),
+            Figure::Count(u64::from(stretch.beam)),
+            Figure::Count(u64::from(width::width_of(stretch, entries))),
+        ],
         buffer,
         at,
     )

@@ -93,147 +93,113 @@ const TWICE: [u8; 24] = *b"twice                   ";
 pub fn handling_words(handling: u8) -> [u8; 24]
     ensures { result ≡ handling_words handling }
 {
-    if handling == 0 {
-        return GOOD_HANDLING;
+    match handling {
+        0 => GOOD_HANDLING,
+        1 => FAIR_HANDLING,
+        _ => POOR_HANDLING,
     }
-    if handling == 1 {
-        return FAIR_HANDLING;
-    }
-    POOR_HANDLING
 }
 
 pub fn wind_words(wind: u8) -> [u8; 24]
     ensures { result ≡ wind_words wind }
 {
-    if wind < 15 {
-        return LIGHT_WIND;
+    match wind {
+        0..=14 => LIGHT_WIND,
+        15..=33 => MIDDLE_WIND,
+        _ => STRONG_WIND,
     }
-    if wind <= 33 {
-        return MIDDLE_WIND;
-    }
-    STRONG_WIND
 }
 
 pub fn cross_words(cross: CrossCurrent) -> [u8; 24]
     ensures { result ≡ cross_words cross }
 {
-    let current = cross.0;
-    if current < 2 {
-        return NEGLIGIBLE_CROSS;
+    match cross.0 {
+        0..=1 => NEGLIGIBLE_CROSS,
+        2..=5 => WEAK_CROSS,
+        6..=15 => MIDDLE_CROSS,
+        _ => STRONG_CROSS,
     }
-    if current <= 5 {
-        return WEAK_CROSS;
-    }
-    if current <= 15 {
-        return MIDDLE_CROSS;
-    }
-    STRONG_CROSS
 }
 
 pub fn along_words(along: AlongCurrent) -> [u8; 24]
     ensures { result ≡ along_words along }
 {
-    let current = along.0;
-    if current < 15 {
-        return WEAK_ALONG;
+    match along.0 {
+        0..=14 => WEAK_ALONG,
+        15..=30 => MIDDLE_ALONG,
+        _ => STRONG_ALONG,
     }
-    if current <= 30 {
-        return MIDDLE_ALONG;
-    }
-    STRONG_ALONG
 }
 
 pub fn wave_words(wave: u16) -> [u8; 24]
     ensures { result ≡ wave_words wave }
 {
-    if wave <= 100 {
-        return LOW_WAVE;
+    match wave {
+        0..=100 => LOW_WAVE,
+        101..=300 => MIDDLE_WAVE,
+        _ => HIGH_WAVE,
     }
-    if wave <= 300 {
-        return MIDDLE_WAVE;
-    }
-    HIGH_WAVE
 }
 
 pub fn aids_words(aids: u8) -> [u8; 24]
     ensures { result ≡ aids_words aids }
 {
-    if aids == 0 {
-        return COMPLETE_AIDS;
+    match aids {
+        0 => COMPLETE_AIDS,
+        1 => GOOD_AIDS,
+        2 => MIDDLE_AIDS,
+        _ => POOR_AIDS,
     }
-    if aids == 1 {
-        return GOOD_AIDS;
-    }
-    if aids == 2 {
-        return MIDDLE_AIDS;
-    }
-    POOR_AIDS
 }
 
 pub fn bed_words(draft: u16, sailing: BelowLevel, bottom: u8) -> [u8; 24]
     ensures { result ≡ bed_words draft sailing bottom }
 {
-    if 3 * (draft as u32) <= 2 * (sailing.0 as u32) {
+    if 3 * u32::from(draft) <= 2 * u32::from(sailing.0) {
         return DEEP;
     }
-    if bottom == 0 {
-        return SOFT_BED;
+    match bottom {
+        0 => SOFT_BED,
+        1 => SMOOTH_BED,
+        _ => ROUGH_BED,
     }
-    if bottom == 1 {
-        return SMOOTH_BED;
-    }
-    ROUGH_BED
 }
 
 pub fn depth_words(water: Water, draft: u16, sailing: BelowLevel) -> [u8; 24]
     ensures { result ≡ depth_words water draft sailing }
 {
-    let ship = draft as u32;
-    let depth = sailing.0 as u32;
+    let ship = u32::from(draft);
+    let depth = u32::from(sailing.0);
     if 3 * ship <= 2 * depth {
         return DEEP;
     }
     match water {
-        Water::Open => {
-            if 5 * ship <= 4 * depth {
-                return OPEN_MIDDLE;
-            }
-            OPEN_SHALLOW
-        }
-        Water::Sheltered => {
-            if 23 * ship <= 20 * depth {
-                return SHELTERED_MIDDLE;
-            }
-            SHELTERED_SHALLOW
-        }
+        Water::Open if 5 * ship <= 4 * depth => OPEN_MIDDLE,
+        Water::Open => OPEN_SHALLOW,
+        Water::Sheltered if 23 * ship <= 20 * depth => SHELTERED_MIDDLE,
+        Water::Sheltered => SHELTERED_SHALLOW,
     }
 }
 
 pub fn cargo_words(cargo: u8) -> [u8; 24]
     ensures { result ≡ cargo_words cargo }
 {
-    if cargo == 0 {
-        return LOW_DANGER;
+    match cargo {
+        0 => LOW_DANGER,
+        1 => MIDDLE_DANGER,
+        _ => HIGH_DANGER,
     }
-    if cargo == 1 {
-        return MIDDLE_DANGER;
-    }
-    HIGH_DANGER
 }
 
 pub fn banks_words(left: u8, right: u8) -> [u8; 24]
     ensures { result ≡ banks_words left right }
 {
-    if left == 0 {
-        if right == 0 {
-            return SLOPING_SLOPING;
-        }
-        return SLOPING_STEEP;
+    match (left, right) {
+        (0, 0) => SLOPING_SLOPING,
+        (0, _) => SLOPING_STEEP,
+        (_, 0) => STEEP_SLOPING,
+        _ => STEEP_STEEP,
     }
-    if right == 0 {
-        return STEEP_SLOPING;
-    }
-    STEEP_STEEP
 }
 
 pub fn passing_words(band: SpeedBand) -> [u8; 24]
@@ -248,13 +214,11 @@ pub fn passing_words(band: SpeedBand) -> [u8; 24]
 pub fn traffic_words(ships: u16) -> [u8; 24]
     ensures { result ≡ traffic_words ships }
 {
-    if ships <= 2400 {
-        return LITTLE_TRAFFIC;
+    match ships {
+        0..=2400 => LITTLE_TRAFFIC,
+        2401..=7200 => MIDDLE_TRAFFIC,
+        _ => GREAT_TRAFFIC,
     }
-    if ships <= 7200 {
-        return MIDDLE_TRAFFIC;
-    }
-    GREAT_TRAFFIC
 }
 
 pub fn times_words(lanes: Lanes) -> [u8; 24]
