@@ -6,6 +6,8 @@ use Prim.Native.Nat.{ℕ, ◌≤◌, ◌<◌}
 use native.Mathlib.Omega.{arith}
 use borrow.Author.Tests.{leb-true, leb-false}
 use lib.Dec.{leb}
+use Rattle.std.specs.Prelude.{Some, None}
+use Rattle.laws.proofs.Never.{never}
 use Rattle.laws.specs.Choice.{ifᵇ◌then◌else◌, ◌=ᵇ◌}
 use Rattle.class.specs.Classes.{class_by, limits, limits_by, Around, InClass, is_special, is_first, is_second, is_third, is_last}
 
@@ -81,7 +83,7 @@ module _ (special first second third figure : ℕ) where
   bounded k (is_third a b) = (a, b)
   bounded k (is_last a) = a
 
-module _ (special first second third : ℕ) (falling : (first ≤ special) × (second ≤ first) × (third ≤ second)) (some : 1 ≤ third) where
+module _ (special first second third : ℕ) (falling : (first ≤ special) × (second ≤ first) × (third ≤ second)) where
   abbrev class_of : ℕ → ℕ
   class_of = class_by special first second third
 
@@ -92,19 +94,16 @@ module _ (special first second third : ℕ) (falling : (first ≤ special) × (s
   there k other i = (class_exactly special first second third other falling k).1 i
 
   -- a class between two others has just the figures from its limit to under the next
-  between : (k figure limit next : ℕ) → (1 ≤ k) × (k ≤ 3) → (1 ≤ limit) × (1 ≤ next) → ((o : ℕ) → (class_of o ≡ k) ↔ ((limit ≤ o) × (o < next)))
-      → limit ≤ figure → figure < next → Around class_of figure (class_of figure) (limits limit next)
-  between k figure limit next middle some exactly passed under =
+  between : (k figure limit next : ℕ) → (1 ≤ k) × (k ≤ 3) → ((o : ℕ) → (class_of o ≡ k) ↔ ((limit ≤ o) × (o < next)))
+      → limit ≤ figure → figure < next → Around class_of figure (class_of figure) (limits (Some limit) (Some next))
+  between k figure limit next middle exactly passed under =
       let e = (exactly figure).1 (passed, under) in
       record {
         reached = passed;
-        under_next = λ n. under;
-        none_better = (λ z. absurd (omega arith), λ z. absurd (omega arith));
-        none_passed = (λ z. absurd (omega arith), λ z. absurd (omega arith));
-        whole_class = λ o. (
-          (λ z. let w = (exactly o).0 (z ∙ e) in (w.0, λ n. w.1)),
-          (λ z. (exactly o).1 (z.0, z.1 (λ n. omega arith)) ∙ sym e),
-        );
+        under_next = under;
+        none_better = (λ z. never cc, λ z. absurd (omega arith));
+        none_passed = (λ z. never cc, λ z. absurd (omega arith));
+        whole_class = λ o. ((λ z. (exactly o).0 (z ∙ e)), (λ z. (exactly o).1 z ∙ sym e));
       }
 
   pub limits_around : (figure : ℕ) → Around class_of figure (class_of figure) (limits_by special first second third figure)
@@ -113,34 +112,35 @@ module _ (special first second third : ℕ) (falling : (first ≤ special) × (s
     where
       go : (a b c d : Bool) → leb special figure ≡ a → leb first figure ≡ b → leb second figure ≡ c → leb third figure ≡ d
           → Around class_of figure (class_of figure)
-          (ifᵇ a then limits special 0 else
-          (ifᵇ b then limits first special else (ifᵇ c then limits second first else (ifᵇ d then limits third second else limits 0 third))))
+          (ifᵇ a then limits (Some special) None else
+          (ifᵇ b then limits (Some first) (Some special) else
+          (ifᵇ c then limits (Some second) (Some first) else (ifᵇ d then limits (Some third) (Some second) else limits None (Some third)))))
       go true b c d p q r t =
           let h = leb-true special figure p in
           let e = there 0 figure (is_special h) in
           record {
             reached = h;
-            under_next = λ n. absurd (n refl);
+            under_next = tt;
             none_better = (λ z. e, λ z. refl);
-            none_passed = (λ z. absurd (omega arith), λ z. absurd (omega arith));
-            whole_class = λ o. ((λ z. (within 0 o (z ∙ e), λ n. absurd (n refl))), (λ z. there 0 o (is_special z.0) ∙ sym e));
+            none_passed = (λ z. never cc, λ z. absurd (omega arith));
+            whole_class = λ o. ((λ z. (within 0 o (z ∙ e), tt)), (λ z. there 0 o (is_special z.0) ∙ sym e));
           }
       go false true c d p q r t =
-          between 1 figure first special (omega arith) (omega arith) (λ o. (within 1 o, λ z. there 1 o (is_first z.0 z.1)))
+          between 1 figure first special (omega arith) (λ o. (within 1 o, λ z. there 1 o (is_first z.0 z.1)))
           (leb-true first figure q) (leb-false special figure p)
       go false false true d p q r t =
-          between 2 figure second first (omega arith) (omega arith) (λ o. (within 2 o, λ z. there 2 o (is_second z.0 z.1)))
+          between 2 figure second first (omega arith) (λ o. (within 2 o, λ z. there 2 o (is_second z.0 z.1)))
           (leb-true second figure r) (leb-false first figure q)
       go false false false true p q r t =
-          between 3 figure third second (omega arith) (omega arith) (λ o. (within 3 o, λ z. there 3 o (is_third z.0 z.1)))
+          between 3 figure third second (omega arith) (λ o. (within 3 o, λ z. there 3 o (is_third z.0 z.1)))
           (leb-true third figure t) (leb-false second figure r)
       go false false false false p q r t =
           let k = leb-false third figure t in
           let e = there 4 figure (is_last k) in
           record {
-            reached = omega arith;
-            under_next = λ n. k;
-            none_better = (λ z. absurd (omega arith), λ z. absurd (omega arith));
+            reached = tt;
+            under_next = k;
+            none_better = (λ z. never cc, λ z. absurd (omega arith));
             none_passed = (λ z. e, λ z. refl);
-            whole_class = λ o. ((λ z. (omega arith, λ n. within 4 o (z ∙ e))), (λ z. there 4 o (is_last (z.1 (λ n. omega arith))) ∙ sym e));
+            whole_class = λ o. ((λ z. (tt, within 4 o (z ∙ e))), (λ z. there 4 o (is_last z.1) ∙ sym e));
           }

@@ -58,14 +58,14 @@ depth_class_within s = class_within 1400 1100 900 800 s.0
 -- The limits that are shown stand around the figure: it has passed the one and is under the next, class 0 has no next and class 4 passed none,
 -- and just the figures between them have its class.
 pub ship_limits_around : (deadweight : ℕ) → Around ship_class deadweight (ship_class deadweight) (ship_limits deadweight)
-ship_limits_around = limits_around 40000 20000 10000 5000 (omega arith) (omega arith)
+ship_limits_around = limits_around 40000 20000 10000 5000 (omega arith)
 
 pub width_limits_around : (lanes : Lanes) (width : ℕ) → Around (width_class lanes) width (width_class lanes width) (width_limits lanes width)
-width_limits_around One = limits_around 11000 9000 7000 5000 (omega arith) (omega arith)
-width_limits_around Two = limits_around 24000 20000 16000 12000 (omega arith) (omega arith)
+width_limits_around One = limits_around 11000 9000 7000 5000 (omega arith)
+width_limits_around Two = limits_around 24000 20000 16000 12000 (omega arith)
 
 pub depth_limits_around : (s : BelowLevel) → Around (λ cm. depth_class (below cm)) s.0 (depth_class s) (depth_limits s)
-depth_limits_around s = limits_around 1400 1100 900 800 (omega arith) (omega arith) s.0
+depth_limits_around s = limits_around 1400 1100 900 800 (omega arith) s.0
 
 -- One answer of each call.
 pub ship_unique : (deadweight r t : ℕ) → r ≡ ship_class deadweight → t ≡ ship_class deadweight → r ≡ t

@@ -1,6 +1,6 @@
 -- Classes, 0 special to 4 (section 7).
 use mathlib.Core.List.{List, foldl}
-use Rattle.std.specs.Prelude.{◌↔◌, ◌≢◌, ◌≡◌, ℕ, ◌≤◌, ◌<◌}
+use Rattle.std.specs.Prelude.{◌↔◌, ◌≡◌, ℕ, ◌≤◌, ◌<◌, Option, Some, None, IfSome}
 use Rattle.laws.specs.Choice.{ifᵇ◌then◌else◌, ◌≤ᵇ◌, ◌<ᵇ◌}
 use Rattle.datum.specs.declared.BelowLevel.{BelowLevel}
 use Rattle.lanes.specs.declared.Lanes.{Lanes}
@@ -39,16 +39,17 @@ pub data InClass (special first second third figure : ℕ) : ℕ → Type 0 wher
   is_third : third ≤ figure → figure < second → InClass special first second third figure 3
   is_last : figure < third → InClass special first second third figure 4
 
--- the limit of a figure's class, and that of the next better class; 0 for none
-abbrev pub limits : ℕ → ℕ → Limits
+-- the limit of a figure's class, and that of the next better class, or none
+abbrev pub limits : Option ℕ → Option ℕ → Limits
 limits passed next = record { passed = passed; next = next }
 
 -- class 0 has no better one, and class 4 no limit
 unfoldable pub limits_by : ℕ → ℕ → ℕ → ℕ → ℕ → Limits
 limits_by special first second third figure =
-    ifᵇ special ≤ᵇ figure then limits special 0 else
-    (ifᵇ first ≤ᵇ figure then limits first special else
-    (ifᵇ second ≤ᵇ figure then limits second first else (ifᵇ third ≤ᵇ figure then limits third second else limits 0 third)))
+    ifᵇ special ≤ᵇ figure then limits (Some special) None else
+    (ifᵇ first ≤ᵇ figure then limits (Some first) (Some special) else
+    (ifᵇ second ≤ᵇ figure then limits (Some second) (Some first) else
+    (ifᵇ third ≤ᵇ figure then limits (Some third) (Some second) else limits None (Some third))))
 
 -- those of the ship, the width and the depth, from the figures of their classes
 abbrev pub ship_limits : ℕ → Limits
@@ -63,11 +64,11 @@ depth_limits s = limits_by 1400 1100 900 800 s.0
 
 -- what they mean: the figure has passed the one and is under the next, and just the figures from the one to under the next have its class
 pub record Around (class_of : ℕ → ℕ) (figure : ℕ) (class : ℕ) (limits : Limits) : Type 0 where
-  pub reached : limits.passed ≤ figure
-  pub under_next : limits.next ≢ 0 → figure < limits.next
-  pub none_better : (limits.next ≡ 0) ↔ (class ≡ 0)
-  pub none_passed : (limits.passed ≡ 0) ↔ (class ≡ 4)
-  pub whole_class : (other : ℕ) → (class_of other ≡ class) ↔ ((limits.passed ≤ other) × (limits.next ≢ 0 → other < limits.next))
+  pub reached : IfSome limits.passed (λ limit. limit ≤ figure)
+  pub under_next : IfSome limits.next (λ limit. figure < limit)
+  pub none_better : (limits.next ≡ None) ↔ (class ≡ 0)
+  pub none_passed : (limits.passed ≡ None) ↔ (class ≡ 4)
+  pub whole_class : (other : ℕ) → (class_of other ≡ class) ↔ (IfSome limits.passed (λ limit. limit ≤ other) × IfSome limits.next (λ limit. other < limit))
 
 -- the smaller of a route's class and a ship's
 unfoldable pub with_ship : ℕ → ℕ → ℕ

@@ -15,37 +15,97 @@ pub struct Classes {
     pub depth: u8,
 }
 
-// The limits around a figure: that of its class, which it has passed, and that of the next better class; 0 for none.
+// The limits around a figure: that of its class, which it has passed, and that of the next better class.
 #[derive(Clone, Copy)]
 pub struct Limits {
-    pub passed: u32,
-    pub next: u32,
+    pub passed: Option<u32>,
+    pub next: Option<u32>,
 }
 
-// The class of a figure, by the figures from which classes 0 to 3 count.
-fn class_by(special: u32, first: u32, second: u32, third: u32, figure: u32) -> u8
-    ensures { result ≡ class_by special first second third figure }
-{
-    if special <= figure {
-        return 0;
+// The figures from which classes 0 to 3 count; under the last is class 4.
+#[derive(Clone, Copy)]
+struct Steps {
+    special: u32,
+    first: u32,
+    second: u32,
+    third: u32,
+}
+
+// Of the deadweight in t.
+const SHIP: Steps = Steps {
+    special: 40000,
+    first: 20000,
+    second: 10000,
+    third: 5000,
+};
+
+// Of the width without widening, in cm.
+const WIDTH_ONE: Steps = Steps {
+    special: 11000,
+    first: 9000,
+    second: 7000,
+    third: 5000,
+};
+
+const WIDTH_TWO: Steps = Steps {
+    special: 24000,
+    first: 20000,
+    second: 16000,
+    third: 12000,
+};
+
+// Of the sailing depth, in cm.
+const DEPTH: Steps = Steps {
+    special: 1400,
+    first: 1100,
+    second: 900,
+    third: 800,
+};
+
+impl Steps {
+    // The class of a figure.
+    #[tactic(auto, unfolding(crate::specs::Classes::class_by))]
+    fn class(self, figure: u32) -> u8
+        ensures { result ≡ class_by self.special self.first self.second self.third figure }
+    {
+        if self.special <= figure {
+            0
+        } else if self.first <= figure {
+            1
+        } else if self.second <= figure {
+            2
+        } else if self.third <= figure {
+            3
+        } else {
+            4
+        }
     }
-    if first <= figure {
-        return 1;
+
+    // The limits around a figure.
+    #[tactic(auto, unfolding(crate::specs::Classes::limits_by))]
+    fn limits(self, figure: u32) -> Limits
+        ensures { result ≡ limits_by self.special self.first self.second self.third figure }
+    {
+        let (passed, next) = if self.special <= figure {
+            (Some(self.special), None)
+        } else if self.first <= figure {
+            (Some(self.first), Some(self.special))
+        } else if self.second <= figure {
+            (Some(self.second), Some(self.first))
+        } else if self.third <= figure {
+            (Some(self.third), Some(self.second))
+        } else {
+            (None, Some(self.third))
+        };
+        Limits { passed, next }
     }
-    if second <= figure {
-        return 2;
-    }
-    if third <= figure {
-        return 3;
-    }
-    4
 }
 
 // By the deadweight in t.
 pub fn ship_class(deadweight: u32) -> u8
     ensures { result ≡ ship_class deadweight }
 {
-    class_by(40000, 20000, 10000, 5000, deadweight)
+    SHIP.class(deadweight)
 }
 
 // By the width without widening, in cm.
@@ -53,8 +113,8 @@ pub fn width_class(width: u32, lanes: Lanes) -> u8
     ensures { result ≡ width_class lanes width }
 {
     match lanes {
-        Lanes::One => class_by(11000, 9000, 7000, 5000, width),
-        Lanes::Two => class_by(24000, 20000, 16000, 12000, width),
+        Lanes::One => WIDTH_ONE.class(width),
+        Lanes::Two => WIDTH_TWO.class(width),
     }
 }
 
@@ -62,7 +122,7 @@ pub fn width_class(width: u32, lanes: Lanes) -> u8
 pub fn depth_class(sailing: BelowLevel) -> u8
     ensures { result ≡ depth_class sailing }
 {
-    class_by(1400, 1100, 900, 800, sailing.0 as u32)
+    DEPTH.class(u32::from(sailing.0))
 }
 
 // The classes of a stretch: by the deadweight in t, the width without widening in its lanes, and the sailing depth.
@@ -76,45 +136,11 @@ pub fn classes_of(deadweight: u32, width: u32, lanes: Lanes, sailing: BelowLevel
     }
 }
 
-// The limits around a figure, by the figures from which classes 0 to 3 count.
-fn limits_by(special: u32, first: u32, second: u32, third: u32, figure: u32) -> Limits
-    ensures { result ≡ limits_by special first second third figure }
-{
-    if special <= figure {
-        return Limits {
-            passed: special,
-            next: 0,
-        };
-    }
-    if first <= figure {
-        return Limits {
-            passed: first,
-            next: special,
-        };
-    }
-    if second <= figure {
-        return Limits {
-            passed: second,
-            next: first,
-        };
-    }
-    if third <= figure {
-        return Limits {
-            passed: third,
-            next: second,
-        };
-    }
-    Limits {
-        passed: 0,
-        next: third,
-    }
-}
-
 // Of the deadweight in t.
 pub fn ship_limits(deadweight: u32) -> Limits
     ensures { result ≡ ship_limits deadweight }
 {
-    limits_by(40000, 20000, 10000, 5000, deadweight)
+    SHIP.limits(deadweight)
 }
 
 // Of the width without widening, in cm.
@@ -122,8 +148,8 @@ pub fn width_limits(width: u32, lanes: Lanes) -> Limits
     ensures { result ≡ width_limits lanes width }
 {
     match lanes {
-        Lanes::One => limits_by(11000, 9000, 7000, 5000, width),
-        Lanes::Two => limits_by(24000, 20000, 16000, 12000, width),
+        Lanes::One => WIDTH_ONE.limits(width),
+        Lanes::Two => WIDTH_TWO.limits(width),
     }
 }
 
@@ -131,7 +157,7 @@ pub fn width_limits(width: u32, lanes: Lanes) -> Limits
 pub fn depth_limits(sailing: BelowLevel) -> Limits
     ensures { result ≡ depth_limits sailing }
 {
-    limits_by(1400, 1100, 900, 800, sailing.0 as u32)
+    DEPTH.limits(u32::from(sailing.0))
 }
 
 // The class of a route none of whose stretches is answered.
@@ -142,8 +168,9 @@ pub fn none_answered() -> u8
 }
 
 // The class of a route with one more answered stretch, of the given ship class.
+#[tactic(auto, unfolding(crate::specs::Classes::with_ship))]
 pub fn route_class(route: u8, ship: u8) -> u8
     ensures { result ≡ with_ship route ship }
 {
-    if ship < route { ship } else { route }
+    ship.min(route)
 }

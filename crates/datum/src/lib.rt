@@ -3,11 +3,20 @@
 #![tactic(auto)]
 
 ghost use Rattle.std.specs.Prelude.{◌≡◌};
-ghost use Rattle.datum.specs.Datum.{natural_depth, datum_depth};
+ghost use Rattle.datum.specs.Datum.{level_of, natural_depth, datum_depth};
 
 // A level above chart datum, in cm plus 500: the record's levels from -500 on, with no sign.
 #[derive(Clone, Copy)]
 pub struct Level(pub u16);
+
+impl Level {
+    // In cm above chart datum, signed.
+    pub fn above_chart(self) -> i32
+        ensures { result ≡ level_of self }
+    {
+        i32::from(self.0) - 500
+    }
+}
 
 // A depth below the design level, in cm.
 #[derive(Clone, Copy)]
@@ -31,19 +40,13 @@ const DEEPEST: i64 = 65535;
 pub fn natural_depth(bed: BelowChart, level: Level) -> BelowLevel
     ensures { result ≡ natural_depth bed level }
 {
-    let depth = bed.0 as i64 + (level.0 as i64 - 500);
-    if depth < 0 {
-        return BelowLevel(0);
-    }
-    if DEEPEST < depth {
-        return BelowLevel(65535);
-    }
-    BelowLevel(depth as u16)
+    let depth = i64::from(bed.0) + i64::from(level.above_chart());
+    BelowLevel(depth.clamp(0, DEEPEST) as u16)
 }
 
 // The datum depth of a cut: how far it lies below chart datum.
 pub fn datum_depth(cut: BelowLevel, level: Level) -> BelowChart
     ensures { result ≡ datum_depth cut level }
 {
-    BelowChart(cut.0 as i32 - (level.0 as i32 - 500))
+    BelowChart(i32::from(cut.0) - level.above_chart())
 }

@@ -2,8 +2,8 @@
 use mathlib.Core.Path.{◌≡◌, refl, sym}
 use mathlib.Core.Bool.{Bool, true, false}
 use mathlib.Core.Logic.{◌↔◌}
-use Prim.Native.Nat.{ℕ, ◌*◌, ◌<◌, ◌≤◌}
-use borrow.Author.Tests.{lt-ltb, le-ltb, ltb-true, ne_eqb}
+use Prim.Native.Nat.{ℕ, ◌*◌, ◌<◌}
+use borrow.Author.Tests.{lt-ltb, ltb-true, ne_eqb}
 use lib.Dec.{ltb}
 use Rattle.laws.proofs.Never.{never}
 use Rattle.laws.specs.Choice.{ifᵇ◌then◌else◌}
@@ -19,13 +19,9 @@ module _ (channel ships knots : ℕ) where
       go true p e = ltb-true _ _ p
       go false p e = never cc
 
-  pub under_limit : channel * ships < 4444800 * knots → One ≡ by_traffic channel ships knots
+  under_limit : channel * ships < 4444800 * knots → One ≡ by_traffic channel ships knots
   unfolding by_traffic
   under_limit h = rw (lt-ltb (channel * ships) (4444800 * knots) h)
-
-  pub from_limit : 4444800 * knots ≤ channel * ships → Two ≡ by_traffic channel ships knots
-  unfolding by_traffic
-  from_limit h = rw (le-ltb (channel * ships) (4444800 * knots) h)
 
   pub one_exactly : (by_traffic channel ships knots ≡ One) ↔ (channel * ships < 4444800 * knots)
   one_exactly = (one_by_traffic, λ h. sym (under_limit h))

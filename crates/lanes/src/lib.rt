@@ -35,19 +35,20 @@ const TRAFFIC: u64 = 4444800;
 pub fn lane_rule(named: u8, channel: u32, ships: u16, knots: u8) -> Lanes
     ensures { result ≡ lanes_of named channel ships knots }
 {
-    if named == 1 {
-        return Lanes::One;
+    match named {
+        1 => Lanes::One,
+        2 => Lanes::Two,
+        _ => by_traffic(channel, ships, knots),
     }
-    if named == 2 {
-        return Lanes::Two;
-    }
-    by_traffic(channel, ships, knots)
 }
 
+// The lanes where none are named.
+#[tactic(auto, unfolding(crate::specs::Lanes::by_traffic, crate::specs::Lanes::sides_of))]
 fn by_traffic(channel: u32, ships: u16, knots: u8) -> Lanes
     ensures { result ≡ by_traffic channel ships knots }
 {
-    if (channel as u64) * (ships as u64) < TRAFFIC * (knots as u64) {
+    let sides = sides_of(channel, ships, knots);
+    if sides.traffic < sides.limit {
         Lanes::One
     } else {
         Lanes::Two
@@ -55,11 +56,12 @@ fn by_traffic(channel: u32, ships: u16, knots: u8) -> Lanes
 }
 
 // The channel's length times its ships, and what that must stay under for one lane.
+#[tactic(auto, unfolding(crate::specs::Lanes::sides_of))]
 pub fn sides_of(channel: u32, ships: u16, knots: u8) -> Sides
     ensures { result ≡ sides_of channel ships knots }
 {
     Sides {
-        traffic: (channel as u64) * (ships as u64),
-        limit: TRAFFIC * (knots as u64),
+        traffic: u64::from(channel) * u64::from(ships),
+        limit: TRAFFIC * u64::from(knots),
     }
 }
