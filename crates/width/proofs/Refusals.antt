@@ -22,7 +22,7 @@ use Rattle.width.specs.declared.SpeedBand.{SpeedBand}
 use Rattle.width.specs.declared.Entries.{Entries}
 use Rattle.width.proofs.bends.Ways.{straight, tight, widened, wide}
 use Rattle.width.proofs.bands.Missing.{Past, Reads, there, missing, cross_reads, wave_reads}
-use Rattle.width.specs.declared.WidthFault.TheVariants.{BendTooTight}
+use Rattle.width.specs.declared.WidthFault.TheVariants.{BendTooTight, NoWidthEntry as EntryFault}
 use Rattle.width.specs.declared.WidthFault.{WidthFault}
 
 -- the water of a sheet
@@ -40,7 +40,7 @@ sheltered_past water last figure is over = rw (eq-eqb water 1 is) over
 
 -- what is told of entries: those that are found are some
 abbrev pub entering : Call (Result Entries WidthFault)
-entering = record { number = entries_number; answered = λ found. (e : Entries) × (found ≡ Ok e); refused = λ found. found ≡ (Err NoWidthEntry) }
+entering = record { number = entries_number; answered = λ found. (e : Entries) × (found ≡ Ok e); refused = λ found. found ≡ Err EntryFault }
 
 module _ (water speed : ℕ) (cross : CrossCurrent) (wave : ℕ) where
   abbrev column : Water

@@ -31,7 +31,7 @@ bend_of turn radius length knots lanes =
 -- its figure: the widening in cm, 0 when refused
 abbrev pub widening_figure : Result ℕ WidthFault → ℕ
 widening_figure (Ok cm) = cm
-widening_figure (Err BendTooTight) = 0
+widening_figure (Err fault) = 0
 
 -- a radius of at least 3 lengths that is not 0, as every bend that is widened has
 pub record LongEnough (radius length : ℕ) : Type 0 where

@@ -3,7 +3,7 @@ use Rattle.std.specs.Prelude.{List, [], ◌∷◌, ◌⊎◌, ◌≢◌, ◌≡�
 use Rattle.laws.specs.Rows.{Row, ◌when◌}
 use Rattle.datum.specs.declared.CrossCurrent.{CrossCurrent}
 use Rattle.width.specs.declared.WidthFault.{WidthFault}
-use Rattle.width.specs.declared.WidthFault.TheVariants.{BendTooTight, NoWidthEntry as EntryFault, NoWidthEntry}
+use Rattle.width.specs.declared.WidthFault.TheVariants.{BendTooTight, NoWidthEntry as EntryFault}
 use Rattle.width.specs.Bends.{least_lengths}
 use Rattle.width.specs.declared.Entries.{Entries}
 
@@ -15,11 +15,11 @@ width_fault_number EntryFault = 8
 -- the number of each answer, 0 for none
 abbrev pub bend_number : Result ℕ WidthFault → ℕ
 bend_number (Ok cm) = 0
-bend_number (Err BendTooTight) = width_fault_number BendTooTight
+bend_number (Err fault) = width_fault_number fault
 
 abbrev pub entries_number : Result Entries WidthFault → ℕ
 entries_number (Ok entries) = 0
-entries_number (Err NoWidthEntry) = width_fault_number EntryFault
+entries_number (Err fault) = width_fault_number fault
 
 -- 7: bend too tight, which is a turn with a radius under the least; the radius is in m and the length in cm
 pub record TightBend (turn radius length : ℕ) : Type 0 where

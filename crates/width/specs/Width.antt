@@ -9,7 +9,6 @@ use Rattle.width.specs.declared.Items.{Items}
 use Rattle.width.specs.Bands.{along_item}
 use Rattle.width.specs.Additions.{lane_item, wind_item, aids_item, bed_item, depth_item, cargo_item, banks_item, passing_item, traffic_item}
 use Rattle.width.specs.declared.WidthFault.{WidthFault}
-use Rattle.width.specs.declared.WidthFault.TheVariants.{NoWidthEntry}
 
 -- the items of a stretch, with its entries
 unfoldable pub items_of : Stretch → Entries → Items
@@ -45,4 +44,4 @@ width_of stretch entries = up (tenths_of stretch.lanes (items_of stretch entries
 -- the figure of a stretch by the entries that it has or has not: its width in cm, 0 when refused
 abbrev pub width_figure : Stretch → Result Entries WidthFault → ℕ
 width_figure stretch (Ok entries) = width_of stretch entries
-width_figure stretch (Err NoWidthEntry) = 0
+width_figure stretch (Err fault) = 0
