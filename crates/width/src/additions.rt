@@ -97,6 +97,7 @@ fn bank_item(band: SpeedBand, bank: u8) -> u8
     }
 }
 
+#[tactic(auto, using(crate::proofs::additions::Banks::bank_within), unfolding(crate::specs::Additions::banks_item))]
 pub fn banks_item(band: SpeedBand, left: u8, right: u8) -> u8
     ensures { result ≡ banks_item band left right }
 {

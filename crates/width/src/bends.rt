@@ -7,7 +7,7 @@ use lanes::Lanes;
 
 // The least radius of a bend, in lengths of the ship.
 #[tactic(auto, unfolding(crate::specs::Bends::least_lengths))]
-pub fn least_lengths(turn: u8) -> u32
+pub fn least_lengths(turn: u8) -> u8
     ensures { result ≡ least_lengths turn }
 {
     match turn {
@@ -29,12 +29,10 @@ pub fn widening(turn: u8, radius: u16, length: u16, knots: u8, lanes: Lanes) -> 
     ensures value { result ≡ widening_of turn radius length knots lanes }
     ensures small { result < 2 ^ 31 }
 {
-    let ship = NUMERATOR
-        * (turn as u64)
-        * ((knots as u64) * (knots as u64))
-        * (lanes::lane_count(lanes) as u64);
-    let square = (length as u64) * (length as u64);
-    scaled(ship, square).div_ceil(radius as u64) as u32
+    let knots = knots as u64;
+    let length = length as u64;
+    let ship = NUMERATOR * turn as u64 * (knots * knots) * lanes::lane_count(lanes) as u64;
+    scaled(ship, length * length).div_ceil(radius as u64) as u32
 }
 
 // A product over the denominator, rounded up: in two parts, since the product alone can pass 64 bits.

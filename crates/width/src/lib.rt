@@ -60,9 +60,10 @@ impl SpeedBand {
     fn of(speed: u8) -> SpeedBand
         ensures { result ≡ speed_band_of speed }
     {
-        match speed {
-            0..=7 => SpeedBand::Slow,
-            _ => SpeedBand::Moderate,
+        if speed < 8 {
+            SpeedBand::Slow
+        } else {
+            SpeedBand::Moderate
         }
     }
 
@@ -170,6 +171,7 @@ pub fn entries_of(
 }
 
 // The items of a stretch with its entries, each by itself.
+#[tactic(auto, unfolding(crate::specs::Width::items_of))]
 pub fn items_of(stretch: Stretch, entries: Entries) -> Items
     ensures { result ≡ items_of stretch entries }
 {
@@ -192,6 +194,7 @@ pub fn items_of(stretch: Stretch, entries: Entries) -> Items
 }
 
 // The width of a stretch with its entries, in cm: its tenths of the beam, rounded up once.
+#[tactic(auto, using(crate::proofs::Ceilings::rounded_up), unfolding(crate::specs::Width::width_of))]
 pub fn width_of(stretch: Stretch, entries: Entries) -> u32
     ensures value { result ≡ width_of stretch entries }
     ensures small { result < 2 ^ 31 }
@@ -201,6 +204,7 @@ pub fn width_of(stretch: Stretch, entries: Entries) -> u32
 }
 
 // The tenths of the beam that the items come to.
+#[tactic(auto, unfolding(crate::specs::Width::tenths_of))]
 pub fn tenths_of(items: Items, lanes: Lanes) -> u16
     ensures { result ≡ tenths_of lanes items }
 {
@@ -227,13 +231,15 @@ pub fn lane_and_added(items: Items) -> u16
 }
 
 // The least whole metres of radius that are not too tight for a turn, by the ship's length in cm.
+#[tactic(auto, using(crate::proofs::Ceilings::rounded_up), unfolding(crate::specs::Bends::least_radius))]
 pub fn least_radius(turn: u8, length: u16) -> u32
     ensures { result ≡ least_radius turn length }
 {
-    (bends::least_lengths(turn) * length as u32).div_ceil(100)
+    (bends::least_lengths(turn) as u32 * length as u32).div_ceil(100)
 }
 
 // What a bend of a turn in degrees and a radius in m asks for, by the ship's length in cm, its speed and the lanes.
+#[tactic(auto, unfolding(crate::specs::Bends::bend_of))]
 pub fn bend_of(
     turn: u8,
     radius: u16,
@@ -247,9 +253,9 @@ pub fn bend_of(
     if turn == 0 {
         return Ok(0);
     }
-    let reach = 100 * (radius as u32);
+    let reach = 100 * radius as u32;
     let ship = length as u32;
-    if reach < bends::least_lengths(turn) * ship {
+    if reach < bends::least_lengths(turn) as u32 * ship {
         return Err(WidthFault::BendTooTight);
     }
     if reach < 10 * ship {

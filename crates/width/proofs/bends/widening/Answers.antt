@@ -7,7 +7,7 @@ use borrow.Author.Rules.{rules}
 use Rattle.laws.specs.Rounding.{up}
 use Rattle.lanes.proofs.Promises.{lanes_within}
 use Rattle.width.proofs.Ceilings.{rounded_up}
-use Rattle.width.proofs.bends.Products.{square_within, turned_within, ship_within, scaled_within, widening_within, widening_is}
+use Rattle.width.proofs.bends.Products.{square_within, turned_within, ship_within, widening_within, widening_is}
 use Rattle.width.proofs.bends.widening.Goals.{After-scaled}
 use Rattle.width.proofs.bends.widening.Goals as goal
 
@@ -42,8 +42,8 @@ module _ (c : After-scaled) where
 pub overflow_mul-ship-4 : goal.overflow_mul-ship-4
 overflow_mul-ship-4 c = record { fits = omega (arith, ship_small c) }
 
-pub overflow_mul-square : goal.overflow_mul-square
-overflow_mul-square c = record { fits = omega (arith, square_small c) }
+pub overflow_mul-length : goal.overflow_mul-length
+overflow_mul-length c = record { fits = omega (arith, square_small c) }
 
 pub scaled-requires : goal.scaled-requires
 scaled-requires c = (ship_small c, omega (arith, square_small c))
