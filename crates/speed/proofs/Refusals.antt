@@ -63,6 +63,6 @@ module _ (q : Section) (knots : ℕ) where
   allowed_exactly parts asked is = rw (ne_eqb q.slope 0 asked, is) (go (9 * parts * 3600 <ᵇ 100 * (knots * 1852) * whole q.cut.0) refl)
     where
       go : (b : Bool) → (9 * parts * 3600 <ᵇ 100 * (knots * 1852) * whole q.cut.0) ≡ b
-          → ((ifᵇ b then Err TooFastFault else (Ok tt)) ≡ (Ok tt)) ↔ (100 * (knots * 1852) * whole q.cut.0 ≤ 9 * parts * 3600)
+          → (◌≡◌ {A = Result (Unit {0}) SpeedFault} (ifᵇ b then Err TooFastFault else Ok tt) (Ok tt)) ↔ (100 * (knots * 1852) * whole q.cut.0 ≤ 9 * parts * 3600)
       go true e = (λ same. never cc, λ within. absurd (omega (arith, ltb-true (9 * parts * 3600) _ e)))
       go false e = (λ same. ltb-false (9 * parts * 3600) _ e, λ within. refl)

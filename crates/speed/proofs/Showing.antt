@@ -30,7 +30,7 @@ pub over_missing : (divisor : ℕ) → None ≡ over divisor None
 unfolding over
 over_missing divisor = go (eqb divisor 0)
   where
-    go : (b : Bool) → None ≡ (ifᵇ b then None else None)
+    go : (b : Bool) → ◌≡◌ {A = Option ℕ} None (ifᵇ b then None else None)
     go true = refl
     go false = refl
 
