@@ -87,6 +87,7 @@ impl Section {
 }
 
 // The joined speed (V' × (cut - h) + V'' × h) / cut, in parts of 5,000 × 4 × 100 × cut; V' comes in hundredths, and goes into it 5,000 × 4 times.
+#[tactic(auto, unfolding(crate::specs::Critical::critical_speed))]
 pub fn critical_speed(section: Section) -> Option<u64>
     ensures value { result ≡ critical_speed section }
     ensures small { parts_of result < 2 ^ 46 }
@@ -100,6 +101,7 @@ pub fn critical_speed(section: Section) -> Option<u64>
 
 // Knots × 1,852 / 3,600 metres a second may be nine tenths of the speed, and no more. Both sides stand times 100 × 3,600 × the whole, as
 // the parts are tenths of a metre a second.
+#[tactic(auto, unfolding(crate::specs::Critical::against))]
 fn against_of(parts: u64, cut: u16, knots: u8) -> Result<(), SpeedFault>
     requires { parts < 2 ^ 46 }
     ensures { result ≡ against parts cut knots }

@@ -14,7 +14,7 @@ pub fn times_of(weight: u16, speed: Option<u64>) -> Option<u64>
 }
 
 // The part of a speed that has a weight; one without weight is not asked for.
-#[tactic(auto, using(crate::proofs::lines::Weighing::part_none, crate::proofs::lines::Weighing::part_some))]
+#[tactic(auto, unfolding(crate::specs::Lines::part))]
 fn part_of(weight: u16, speed: Option<u64>) -> Option<u64>
     requires { parts_of speed < 2 ^ 29 }
     ensures { result ≡ part weight speed }
@@ -47,7 +47,8 @@ pub fn straight_line<F: Fn(u32) -> Option<u64>>(step: u16, x: u32, at: F) -> Opt
     requires callable { F.IsAlwaysCallable at }
     requires small { (line : ℕ) (speed : Option ℕ) → F.post at line speed → parts_of speed < 2 ^ 29 }
     requires stepped { 1 < step }
-    ensures { (here : Option ℕ) × (next : Option ℕ) × F.post at (x / step) here × F.post at (x / step + 1) next × result ≡ weighed (step - x % step) here (x % step) next }
+    ensures { (here : Option ℕ) × (next : Option ℕ) × F.post at (x / step) here × F.post at (x / step + 1) next
+        × result ≡ weighed (step - x % step) here (x % step) next }
 {
     let line = x / step as u32;
     let past = (x % step as u32) as u16;
@@ -67,9 +68,6 @@ pub fn slope_speed(width: u32, slope: u8, depth: u16) -> Option<u64>
     ensures value { result ≡ slope_speed width slope depth }
     ensures small { parts_of result ≤ 102000 }
 {
-    straight_line(
-        4,
-        slope as u32,
-        |line| row_speed(table::full_row(width, line), depth),
-    )
+    let at_slope = |line| row_speed(table::full_row(width, line), depth);
+    straight_line(4, slope as u32, at_slope)
 }
