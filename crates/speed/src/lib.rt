@@ -24,6 +24,15 @@ pub struct Section {
     pub slope: u8,
 }
 
+impl Section {
+    // h, what is dug of the cut: cut - N, or 0 if negative.
+    fn dug(self) -> u16
+        ensures { (result ≡ dug self.natural.0 self.cut.0) × (result ≤ self.cut.0) }
+    {
+        self.cut.0.saturating_sub(self.natural.0)
+    }
+}
+
 // Why a speed is not allowed: a needed point of the table is blank or outside, or the ship is too fast.
 #[derive(Clone, Copy)]
 pub enum SpeedFault {
@@ -75,15 +84,6 @@ pub fn full_speed(width: u32, slope: u8, depth: BelowLevel) -> Option<u64>
     ensures small { parts_of result ≤ 510000000 }
 {
     lines::straight_line(5000, width, |line| lines::slope_speed(line, slope, depth.0))
-}
-
-impl Section {
-    // h, what is dug of the cut: cut - N, or 0 if negative.
-    fn dug(self) -> u16
-        ensures { (result ≡ dug self.natural.0 self.cut.0) × (result ≤ self.cut.0) }
-    {
-        self.cut.0.saturating_sub(self.natural.0)
-    }
 }
 
 // The joined speed (V' × (cut - h) + V'' × h) / cut, in parts of 5,000 × 4 × 100 × cut; V' comes in hundredths, and goes into it 5,000 × 4 times.

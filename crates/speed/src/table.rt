@@ -3,7 +3,7 @@ ghost use Rattle.std.specs.Prelude.{◌≡◌, ◌≤◌};
 ghost use Rattle.speed.specs.Table.{full_row, entry, point_of};
 ghost use Rattle.speed.specs.Lines.{parts_of};
 
-// The mark of a dash: no entry of the table is 0.
+// The mark of a dash, as the table is written: no entry of it is 0.
 const DASH: u8 = 0;
 
 // V', of shallow water, at depths of 4 to 16 m.
@@ -28,7 +28,7 @@ const FULL: [[u8; 13]; 15] = [
     [DASH, DASH, DASH, DASH, 65, 68, 69, 70, 72, 73, 75, 76, 77], // 1/12
 ];
 
-// What stands outside the table.
+// What stands outside the table: the definition's row there has dashes, so it is no Option.
 const DASHES: [u8; 13] = [DASH; 13];
 
 // The row of a width, in lines of 50 m, and a slope, in lines of 4.

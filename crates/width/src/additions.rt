@@ -1,5 +1,5 @@
 // The items of a width but for currents and waves (definition, sections 5.1 to 5.3).
-// A handling, aids, a bottom, a cargo or a bank is a field's figure: a sheet has fewer than its 8 bits hold, and `items_of` takes any.
+// Handling, aids, bottom, cargo and banks stay numbers: `items_of` takes any figure of a sheet's fields, and an enum would ask more of its callers.
 ghost use Rattle.std.specs.Prelude.{◌≡◌, ◌*◌};
 ghost use Rattle.laws.specs.Choice.{◌≤ᵇ◌};
 ghost use Rattle.width.specs.Additions.{lane_item, wind_item, aids_item, bed_item, depth_item, cargo_item, bank_item, banks_item, passing_item, traffic_item};

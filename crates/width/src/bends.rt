@@ -23,7 +23,7 @@ const NUMERATOR: u64 = 1143;
 
 const DENOMINATOR: u64 = 305750000;
 
-// The widening of a bend, in cm.
+// The widening of a bend, in cm, by what `bend_of` is called with: a struct for this one call would be no plainer.
 pub fn widening(turn: u8, radius: u16, length: u16, knots: u8, lanes: Lanes) -> u32
     requires { LongEnough radius length }
     ensures value { result ≡ widening_of turn radius length knots lanes }
