@@ -1,5 +1,5 @@
--- What the critical speed promises (sections 8 and 13), each cited from its proof. `shallow_speed`, `full_speed`, `critical_speed`, `check_of`,
--- `parts_shown` (of `parts_of`) and `speed_fault_number` are what the calls of like names ensure.
+-- What the critical speed promises (sections 8 and 13), each cited from its proof. `shallow_speed`, `full_speed`, `critical_speed`, `check_of`
+-- and `parts_shown` (of `parts_of`) are what the calls of like names ensure, and `speed_fault_number` is what a fault's `number` ensures.
 use Rattle.std.specs.Prelude.{Option, Some, None, Result, Ok}
 use mathlib.Core.Path.{◌≡◌, sym}
 use mathlib.Core.Logic.{◌↔◌, ◌≢◌}

@@ -6,7 +6,7 @@ use mathlib.Core.Logic.{◌↔◌, ◌≢◌}
 use Prim.Native.Nat.{ℕ, ◌*◌, ◌/◌, ◌≤◌, ◌<◌}
 use native.Mathlib.Nat.{le-div_iff_mul-le}
 use native.Mathlib.Omega.{arith}
-use borrow.Author.Tests.{eq-eqb, ne_eqb}
+use borrow.Author.Tests.{ne_eqb}
 use lib.Dec.{eqb}
 use Rattle.laws.specs.Choice.{ifᵇ◌then◌else◌}
 use Rattle.laws.proofs.Never.{never}
@@ -18,10 +18,6 @@ use Rattle.speed.proofs.Ways.{by_speed_lem}
 use Rattle.speed.proofs.Refusals.{allowed_exactly}
 
 module _ (divisor : ℕ) (speed : Option ℕ) where
-  pub over_none : divisor ≡ 0 → None ≡ over divisor speed
-  unfolding over
-  over_none none = rw (eq-eqb divisor 0 none)
-
   pub over_some : divisor ≢ 0 → quotient divisor speed ≡ over divisor speed
   unfolding over
   over_some some = rw (ne_eqb divisor 0 some)

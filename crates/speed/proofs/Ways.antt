@@ -1,22 +1,12 @@
--- Each way out of the check, as the definition has it: without a slope, by the speed, and at a speed by its one test.
-use Rattle.std.specs.Prelude.{Option, Result, Ok, Err}
+-- The ways out of the check, as the definition has it: without a slope, and by the speed.
+use Rattle.std.specs.Prelude.{Option, Result, Ok}
 use mathlib.Core.Path.{◌≡◌, ap, sym, ◌∙◌}
 use mathlib.Core.Logic.{◌≢◌}
-use Prim.Native.Nat.{ℕ, ◌*◌, ◌≤◌, ◌<◌}
-use borrow.Author.Tests.{eq-eqb, ne_eqb, lt-ltb, le-ltb}
-use Rattle.speed.specs.Critical.{critical_speed, whole, against, by_speed, check_of}
+use Prim.Native.Nat.{ℕ}
+use borrow.Author.Tests.{eq-eqb, ne_eqb}
+use Rattle.speed.specs.Critical.{critical_speed, by_speed, check_of}
 use Rattle.speed.specs.declared.Section.{Section}
-use Rattle.speed.specs.declared.SpeedFault.TheVariants.{TooFast}
 use Rattle.speed.specs.declared.SpeedFault.{SpeedFault}
-
-module _ (parts cut knots : ℕ) where
-  pub too_fast : 9 * parts * 3600 < 100 * (knots * 1852) * whole cut → Err TooFast ≡ against parts cut knots
-  unfolding against
-  too_fast more = rw (lt-ltb _ _ more)
-
-  pub within : 100 * (knots * 1852) * whole cut ≤ 9 * parts * 3600 → (Ok tt) ≡ against parts cut knots
-  unfolding against
-  within most = rw (le-ltb _ _ most)
 
 module _ (q : Section) (knots : ℕ) where
   pub unasked : q.slope ≡ 0 → (Ok tt) ≡ check_of q knots

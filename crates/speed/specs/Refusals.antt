@@ -1,5 +1,6 @@
 -- What turns a sheet away here (section 8): each row's number, and what it means.
-use Rattle.std.specs.Prelude.{◌≡◌, List, [], ◌∷◌, ◌≢◌, ℕ, ◌*◌, ◌<◌, Some, Result, Ok, Err}
+use Rattle.std.specs.Prelude.{◌≡◌, List, [], ◌∷◌, ◌≢◌, ℕ, ◌*◌, ◌<◌, ◌≤◌, Some, Result, Ok, Err}
+use Rattle.std.proofs.Common.{lit≤}
 use Rattle.laws.specs.Rows.{Row, ◌when◌}
 use Rattle.speed.specs.declared.Section.{Section}
 use Rattle.speed.specs.declared.SpeedFault.{SpeedFault}
@@ -11,6 +12,11 @@ use Rattle.speed.specs.Weights.{Lacking}
 abbrev pub speed_fault_number : SpeedFault → ℕ
 speed_fault_number PointMissing = 16
 speed_fault_number TooFastFault = 17
+
+-- none is 0, which is no refusal's
+pub speed_fault_some : (fault : SpeedFault) → 1 ≤ speed_fault_number fault
+speed_fault_some PointMissing = lit≤ tt
+speed_fault_some TooFastFault = lit≤ tt
 
 -- the number of a check, 0 for none
 abbrev pub check_number : Result (Unit {0}) SpeedFault → ℕ

@@ -1,25 +1,22 @@
 // Speeds by their weights, and straight lines over the table's grid (definition, section 13.2).
-ghost use Rattle.std.specs.Prelude.{◌≡◌, ◌+◌, ◌*◌, ◌^◌, ◌≤◌, ◌<◌};
+ghost use Rattle.std.specs.Prelude.{◌≡◌, ℕ, Option, ◌+◌, ◌-◌, ◌*◌, ◌/◌, ◌%◌, ◌^◌, ◌≤◌, ◌<◌};
 ghost use Rattle.speed.specs.Lines.{parts_of, times, part, together, weighed};
 ghost use Rattle.speed.specs.Critical.{row_speed, slope_speed};
 
 use crate::table;
 
 // So many times a speed.
-pub fn times_of(weight: u64, speed: Option<u64>) -> Option<u64>
-    requires { (weight < 2 ^ 16) × (parts_of speed < 2 ^ 29) }
+pub fn times_of(weight: u16, speed: Option<u64>) -> Option<u64>
+    requires { parts_of speed < 2 ^ 29 }
     ensures { result ≡ times weight speed }
 {
-    match speed {
-        Some(parts) => Some(weight * parts),
-        None => None,
-    }
+    Some(weight as u64 * speed?)
 }
 
 // The part of a speed that has a weight; one without weight is not asked for.
-#[tactic(auto, using(crate::proofs::lines::Weighing::part_none, crate::proofs::lines::Weighing::part_some))]
-fn part_of(weight: u64, speed: Option<u64>) -> Option<u64>
-    requires { (weight < 2 ^ 16) × (parts_of speed < 2 ^ 29) }
+#[tactic(auto, unfolding(crate::specs::Lines::part))]
+fn part_of(weight: u16, speed: Option<u64>) -> Option<u64>
+    requires { parts_of speed < 2 ^ 29 }
     ensures { result ≡ part weight speed }
 {
     if weight == 0 {
@@ -33,23 +30,29 @@ fn together_of(one: Option<u64>, other: Option<u64>) -> Option<u64>
     requires { (parts_of one < 2 ^ 45) × (parts_of other < 2 ^ 45) }
     ensures { result ≡ together one other }
 {
-    match one {
-        None => None,
-        Some(first) => match other {
-            None => None,
-            Some(second) => Some(first + second),
-        },
-    }
+    Some(one? + other?)
 }
 
 // Two speeds, each by its weight.
-pub fn weighed_of(near: u64, here: Option<u64>, far: u64, next: Option<u64>) -> Option<u64>
-    requires { (near < 2 ^ 16) × ((far < 2 ^ 16) × ((parts_of here < 2 ^ 29) × (parts_of next < 2 ^ 29))) }
+#[tactic(auto, unfolding(crate::specs::Lines::weighed))]
+pub fn weighed_of(near: u16, here: Option<u64>, far: u16, next: Option<u64>) -> Option<u64>
+    requires { (parts_of here < 2 ^ 29) × (parts_of next < 2 ^ 29) }
     ensures { result ≡ weighed near here far next }
 {
-    let first = part_of(near, here);
-    let second = part_of(far, next);
-    together_of(first, second)
+    together_of(part_of(near, here), part_of(far, next))
+}
+
+// The straight line over a grid of a step, at x, by the speed at each line.
+pub fn straight_line<F: Fn(u32) -> Option<u64>>(step: u16, x: u32, at: F) -> Option<u64>
+    requires callable { F.IsAlwaysCallable at }
+    requires small { (line : ℕ) (speed : Option ℕ) → F.post at line speed → parts_of speed < 2 ^ 29 }
+    requires stepped { 1 < step }
+    ensures { (here : Option ℕ) × (next : Option ℕ) × F.post at (x / step) here × F.post at (x / step + 1) next
+        × result ≡ weighed (step - x % step) here (x % step) next }
+{
+    let line = x / step as u32;
+    let past = (x % step as u32) as u16;
+    weighed_of(step - past, at(line), past, at(line + 1))
 }
 
 // A row's speed at a depth in cm, in hundredths: the straight line between two whole metres.
@@ -57,11 +60,7 @@ pub fn row_speed(row: [u8; 13], depth: u16) -> Option<u64>
     ensures value { result ≡ row_speed row depth }
     ensures small { parts_of result ≤ 25500 }
 {
-    let metres = depth as u32 / 100;
-    let past = depth as u64 % 100;
-    let here = table::point_of(row, metres);
-    let next = table::point_of(row, metres + 1);
-    weighed_of(100 - past, here, past, next)
+    straight_line(100, depth as u32, |metres| table::point_of(row, metres))
 }
 
 // The speed of a full section at a width in lines of 50 m: the straight line between two slopes.
@@ -69,9 +68,6 @@ pub fn slope_speed(width: u32, slope: u8, depth: u16) -> Option<u64>
     ensures value { result ≡ slope_speed width slope depth }
     ensures small { parts_of result ≤ 102000 }
 {
-    let line = slope as u32 / 4;
-    let past = slope as u64 % 4;
-    let here = row_speed(table::full_row(width, line), depth);
-    let next = row_speed(table::full_row(width, line + 1), depth);
-    weighed_of(4 - past, here, past, next)
+    let at_slope = |line| row_speed(table::full_row(width, line), depth);
+    straight_line(4, slope as u32, at_slope)
 }

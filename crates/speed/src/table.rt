@@ -1,9 +1,9 @@
 // Table 2a of document 001: critical speeds in tenths of a metre a second (definition, section 13.1).
 ghost use Rattle.std.specs.Prelude.{◌≡◌, ◌≤◌};
-ghost use Rattle.speed.specs.Table.{outside, full_row, entry, point_of};
+ghost use Rattle.speed.specs.Table.{full_row, entry, point_of};
 ghost use Rattle.speed.specs.Lines.{parts_of};
 
-// The mark of a dash: no entry of the table is 0.
+// The mark of a dash, as the table is written: no entry of it is 0.
 const DASH: u8 = 0;
 
 // V', of shallow water, at depths of 4 to 16 m.
@@ -28,47 +28,38 @@ const FULL: [[u8; 13]; 15] = [
     [DASH, DASH, DASH, DASH, 65, 68, 69, 70, 72, 73, 75, 76, 77], // 1/12
 ];
 
-// What stands outside the table.
+// What stands outside the table: the definition's row there has dashes, so it is no Option.
 const DASHES: [u8; 13] = [DASH; 13];
 
-// Whether a line of a grid is none of the table's, which has `first` to `last`.
-fn outside_of(line: u32, first: u32, last: u32) -> bool
-    ensures { result ≡ outside line first last }
-{
-    line < first || last < line
-}
-
 // The row of a width, in lines of 50 m, and a slope, in lines of 4.
+#[tactic(auto, unfolding(crate::specs::Table::full_row))]
 pub fn full_row(width: u32, slope: u32) -> [u8; 13]
     ensures { result ≡ full_row width slope }
 {
-    if outside_of(width, 1, 5) {
-        return DASHES;
+    match (width, slope) {
+        (1..=5, 1..=3) => FULL[(3 * (width - 1) + (slope - 1)) as usize],
+        _ => DASHES,
     }
-    if outside_of(slope, 1, 3) {
-        return DASHES;
-    }
-    let row = 3 * (width - 1) + (slope - 1);
-    FULL[row as usize]
 }
 
 // What stands in the table, as a speed: a dash is none.
-#[tactic(auto, using(crate::proofs::table::Grid::at_dash, crate::proofs::table::Grid::at_figure))]
+#[tactic(auto, unfolding(crate::specs::Table::entry))]
 fn entered(figure: u8) -> Option<u64>
     ensures { (result ≡ entry figure) × (parts_of result ≤ 255) }
 {
-    if figure == DASH {
-        return None;
+    match figure {
+        DASH => None,
+        _ => Some(figure as u64),
     }
-    Some(figure as u64)
 }
 
 // The point of a row at a depth in whole metres.
+#[tactic(auto, unfolding(crate::specs::Table::point_of))]
 pub fn point_of(row: [u8; 13], metres: u32) -> Option<u64>
     ensures { (result ≡ point_of row metres) × (parts_of result ≤ 255) }
 {
-    if outside_of(metres, 4, 16) {
-        return None;
+    match metres {
+        4..=16 => entered(row[metres as usize - 4]),
+        _ => None,
     }
-    entered(row[metres as usize - 4])
 }

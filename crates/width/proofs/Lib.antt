@@ -1,3 +1,4 @@
+mod Ceilings
 mod Totals
 mod Meaning
 mod Growth

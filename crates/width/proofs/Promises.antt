@@ -1,5 +1,5 @@
 -- What the width and the bends promise (sections 5, 6 and 8), each cited from its proof. `entries_of`, `items_of`, `lane_and_added`, `tenths_of`,
--- `width_of`, `least_radius`, `bend_of` and `width_fault_number` are what the calls of like names ensure.
+-- `width_of`, `least_radius` and `bend_of` are what the calls of like names ensure, and `width_fault_number` is what a fault's `number` ensures.
 use Rattle.std.specs.Prelude.{Result, Ok, Err}
 use mathlib.Core.Path.{◌≡◌}
 use mathlib.Core.Logic.{◌↔◌, ◌≢◌}

@@ -23,7 +23,7 @@ use Rattle.width.specs.declared.SpeedBand.{SpeedBand}
 use Rattle.width.specs.declared.Entries.{Entries}
 use Rattle.width.proofs.bends.Ways.{straight, tight, widened, wide}
 use Rattle.width.proofs.bands.Missing.{Past, Reads, there, missing, cross_reads, wave_reads}
-use Rattle.width.specs.declared.WidthFault.TheVariants.{BendTooTight}
+use Rattle.width.specs.declared.WidthFault.TheVariants.{BendTooTight, NoWidthEntry as EntryFault}
 use Rattle.width.specs.declared.WidthFault.{WidthFault}
 
 -- the water of a sheet

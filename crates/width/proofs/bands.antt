@@ -1,3 +1,2 @@
-pub mod Entering
 pub mod Missing
 pub mod Rising

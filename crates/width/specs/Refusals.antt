@@ -1,5 +1,6 @@
 -- What turns a stretch away here (section 8): the bend, and the entries of the width; each row's number, and what it means.
-use Rattle.std.specs.Prelude.{List, [], ◌∷◌, ◌⊎◌, ◌≢◌, ◌≡◌, ℕ, ◌*◌, ◌<◌, Result, Ok, Err}
+use Rattle.std.specs.Prelude.{List, [], ◌∷◌, ◌⊎◌, ◌≢◌, ◌≡◌, ℕ, ◌*◌, ◌<◌, ◌≤◌, Result, Ok, Err}
+use Rattle.std.proofs.Common.{lit≤}
 use Rattle.laws.specs.Rows.{Row, ◌when◌}
 use Rattle.datum.specs.declared.CrossCurrent.{CrossCurrent}
 use Rattle.width.specs.declared.WidthFault.{WidthFault}
@@ -11,6 +12,11 @@ use Rattle.width.specs.declared.Entries.{Entries}
 abbrev pub width_fault_number : WidthFault → ℕ
 width_fault_number BendTooTight = 7
 width_fault_number EntryFault = 8
+
+-- none is 0, which is no refusal's
+pub width_fault_some : (fault : WidthFault) → 1 ≤ width_fault_number fault
+width_fault_some BendTooTight = lit≤ tt
+width_fault_some EntryFault = lit≤ tt
 
 -- the number of each answer, 0 for none
 abbrev pub bend_number : Result ℕ WidthFault → ℕ

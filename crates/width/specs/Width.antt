@@ -9,7 +9,6 @@ use Rattle.width.specs.declared.Items.{Items}
 use Rattle.width.specs.Bands.{along_item}
 use Rattle.width.specs.Additions.{lane_item, wind_item, aids_item, bed_item, depth_item, cargo_item, banks_item, passing_item, traffic_item}
 use Rattle.width.specs.declared.WidthFault.{WidthFault}
-use Rattle.width.specs.declared.WidthFault.TheVariants.{NoWidthEntry}
 
 -- the items of a stretch, with its entries
 unfoldable pub items_of : Stretch → Entries → Items

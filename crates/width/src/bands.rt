@@ -1,62 +1,21 @@
 // The bands of currents and waves, line by line as (c), (d) and (e) of annex A of TCVN 9272:2012 (definition, section 5.2).
 // A band's lines are moderate then slow, since no sheet has a fast ship; a line has open water, then sheltered; a dash is a blank entry.
-ghost use Rattle.std.specs.Prelude.{◌≡◌, Some, None};
-ghost use Rattle.width.specs.Bands.{by◌in-open◌in-sheltered◌, cross_entry, along_item, wave_entry};
+ghost use Rattle.std.specs.Prelude.{◌≡◌};
+ghost use Rattle.width.specs.Bands.{cross_entry, along_item, wave_entry};
 
 use crate::{SpeedBand, Water};
 use datum::{AlongCurrent, CrossCurrent};
-
-// A figure of open water and one of sheltered water.
-pub fn watered(water: Water, outside: u8, inside: u8) -> u8
-    ensures { result ≡ (by water in-open outside in-sheltered inside) }
-{
-    match water {
-        Water::Open => outside,
-        Water::Sheltered => inside,
-    }
-}
-
-// A line of the annex with a figure for open water and one for sheltered water.
-fn both(water: Water, outside: u8, inside: u8) -> Option<u8>
-    ensures { result ≡ Some (by water in-open outside in-sheltered inside) }
-{
-    Some(watered(water, outside, inside))
-}
-
-// A line with a figure for open water and a dash for sheltered water.
-fn open_only(water: Water, outside: u8) -> Option<u8>
-    ensures { result ≡ (by water in-open (Some outside) in-sheltered None) }
-{
-    match water {
-        Water::Open => Some(outside),
-        Water::Sheltered => None,
-    }
-}
 
 // (c) Cross current, in tenths of a knot: negligible, weak, moderate, strong.
 #[tactic(auto, unfolding(crate::specs::Bands::cross_entry))]
 pub fn cross_entry(water: Water, band: SpeedBand, cross: CrossCurrent) -> Option<u8>
     ensures { result ≡ cross_entry water band cross }
 {
-    let current = cross.0;
-    if current < 2 {
-        return Some(0);
-    }
-    if current <= 5 {
-        return match band {
-            SpeedBand::Moderate => both(water, 2, 1),
-            SpeedBand::Slow => both(water, 3, 2),
-        };
-    }
-    if current <= 15 {
-        return match band {
-            SpeedBand::Moderate => both(water, 7, 5),
-            SpeedBand::Slow => both(water, 10, 8),
-        };
-    }
-    match band {
-        SpeedBand::Moderate => open_only(water, 10),
-        SpeedBand::Slow => open_only(water, 13),
+    match cross.0 {
+        0..=1 => Some(0),
+        2..=5 => Some(water.pick(band.pick(2, 3), band.pick(1, 2))),
+        6..=15 => Some(water.pick(band.pick(7, 10), band.pick(5, 8))),
+        _ => water.pick(Some(band.pick(10, 13)), None),
     }
 }
 
@@ -65,19 +24,10 @@ pub fn cross_entry(water: Water, band: SpeedBand, cross: CrossCurrent) -> Option
 pub fn along_item(band: SpeedBand, along: AlongCurrent) -> u8
     ensures { result ≡ along_item band along }
 {
-    let current = along.0;
-    if current < 15 {
-        return 0;
-    }
-    if current <= 30 {
-        return match band {
-            SpeedBand::Moderate => 1,
-            SpeedBand::Slow => 2,
-        };
-    }
-    match band {
-        SpeedBand::Moderate => 2,
-        SpeedBand::Slow => 4,
+    match along.0 {
+        0..=14 => 0,
+        15..=30 => band.pick(1, 2),
+        _ => band.pick(2, 4),
     }
 }
 
@@ -86,17 +36,9 @@ pub fn along_item(band: SpeedBand, along: AlongCurrent) -> u8
 pub fn wave_entry(water: Water, band: SpeedBand, wave: u16) -> Option<u8>
     ensures { result ≡ wave_entry water band wave }
 {
-    if wave <= 100 {
-        return Some(0);
-    }
-    if wave <= 300 {
-        return match band {
-            SpeedBand::Moderate => open_only(water, 10),
-            SpeedBand::Slow => open_only(water, 5),
-        };
-    }
-    match band {
-        SpeedBand::Moderate => open_only(water, 22),
-        SpeedBand::Slow => open_only(water, 15),
+    match wave {
+        0..=100 => Some(0),
+        101..=300 => water.pick(Some(band.pick(10, 5)), None),
+        _ => water.pick(Some(band.pick(22, 15)), None),
     }
 }

@@ -7,19 +7,15 @@ use lanes::Lanes;
 
 // The least radius of a bend, in lengths of the ship.
 #[tactic(auto, unfolding(crate::specs::Bends::least_lengths))]
-pub fn least_lengths(turn: u8) -> u32
+pub fn least_lengths(turn: u8) -> u8
     ensures { result ≡ least_lengths turn }
 {
-    if turn < 25 {
-        return 3;
+    match turn {
+        0..=24 => 3,
+        25..=34 => 5,
+        35..=54 => 8,
+        _ => 10,
     }
-    if turn < 35 {
-        return 5;
-    }
-    if turn < 55 {
-        return 8;
-    }
-    10
 }
 
 // 9144 / 2,446,000,000 in its lowest terms.
@@ -27,19 +23,16 @@ const NUMERATOR: u64 = 1143;
 
 const DENOMINATOR: u64 = 305750000;
 
-// The widening of a bend, in cm.
+// The widening of a bend, in cm, by what `bend_of` is called with: a struct for this one call would be no plainer.
 pub fn widening(turn: u8, radius: u16, length: u16, knots: u8, lanes: Lanes) -> u32
     requires { LongEnough radius length }
     ensures value { result ≡ widening_of turn radius length knots lanes }
     ensures small { result < 2 ^ 31 }
 {
-    let ship = NUMERATOR
-        * (turn as u64)
-        * ((knots as u64) * (knots as u64))
-        * (lanes::lane_count(lanes) as u64);
-    let square = (length as u64) * (length as u64);
-    let metres = radius as u64;
-    ((scaled(ship, square) + (metres - 1)) / metres) as u32
+    let knots = knots as u64;
+    let length = length as u64;
+    let ship = NUMERATOR * turn as u64 * (knots * knots) * lanes::lane_count(lanes) as u64;
+    scaled(ship, length * length).div_ceil(radius as u64) as u32
 }
 
 // A product over the denominator, rounded up: in two parts, since the product alone can pass 64 bits.
@@ -49,5 +42,5 @@ fn scaled(ship: u64, square: u64) -> u64
 {
     let whole = ship / DENOMINATOR * square;
     let rest = ship % DENOMINATOR * square;
-    whole + (rest + (DENOMINATOR - 1)) / DENOMINATOR
+    whole + rest.div_ceil(DENOMINATOR)
 }

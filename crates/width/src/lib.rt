@@ -2,13 +2,14 @@
 #![tactic(auto)]
 
 ghost use Rattle.std.specs.Prelude.{◌≡◌, ◌<◌, ◌^◌};
-ghost use Rattle.width.specs.Bands.{water_of, speed_band_of, entries_of};
+ghost use Rattle.width.specs.Bands.{water_of, speed_band_of, by◌in-open◌in-sheltered◌, for◌moderate◌slow◌, entries_of};
 ghost use Rattle.width.specs.Bends.{least_radius, bend_of, widening_figure};
-ghost use Rattle.width.specs.Refusals.{width_fault_number};
+ghost use Rattle.width.specs.Refusals.{width_fault_number, width_fault_some};
 ghost use Rattle.width.specs.Width.{items_of, tenths_of, width_of, lane_and_added};
 
 use datum::{AlongCurrent, BelowLevel, CrossCurrent};
 use lanes::Lanes;
+use laws::Refusal;
 
 mod additions;
 mod bands;
@@ -21,11 +22,60 @@ pub enum Water {
     Sheltered,
 }
 
+// A sheet's figure: 1 is sheltered, and any other, of which a sheet has only 0, is open.
+impl From<u8> for Water {
+    ghost from_gives = { λ water r. r ≡ water_of water };
+
+    #[tactic(auto, unfolding(crate::specs::Bands::water_of))]
+    fn from(water: u8) -> Water {
+        match water {
+            1 => Water::Sheltered,
+            _ => Water::Open,
+        }
+    }
+}
+
+impl Water {
+    // What open water takes, or what sheltered water takes.
+    fn pick<T: Copy>(self, outside: T, inside: T) -> T
+        ensures { result ≡ (by self in-open outside in-sheltered inside) }
+    {
+        match self {
+            Water::Open => outside,
+            Water::Sheltered => inside,
+        }
+    }
+}
+
 // From 8 knots on a ship is at moderate speed, under 8 slow.
 #[derive(Clone, Copy)]
 pub enum SpeedBand {
     Moderate,
     Slow,
+}
+
+impl SpeedBand {
+    // The band of a speed in knots.
+    #[tactic(auto, unfolding(crate::specs::Bands::speed_band_of))]
+    fn of(speed: u8) -> SpeedBand
+        ensures { result ≡ speed_band_of speed }
+    {
+        if speed < 8 {
+            SpeedBand::Slow
+        } else {
+            SpeedBand::Moderate
+        }
+    }
+
+    // A figure written moderate/slow.
+    fn pick(self, faster: u8, slower: u8) -> u8
+        ensures { result ≡ (for self moderate faster slow slower) }
+    {
+        match self {
+            SpeedBand::Moderate => faster,
+            SpeedBand::Slow => slower,
+        }
+    }
 }
 
 // What the tables of bands give before the depth is known: the water, the speed band, and the tenths of cross current and wave.
@@ -79,37 +129,27 @@ pub enum WidthFault {
     NoWidthEntry,
 }
 
-// The number that turns a sheet away for a fault.
-pub fn width_fault_number(fault: WidthFault) -> u8
-    ensures { result ≡ width_fault_number fault }
-{
-    match fault {
-        WidthFault::BendTooTight => 7,
-        WidthFault::NoWidthEntry => 8,
-    }
-}
+impl Refusal for WidthFault {
+    ghost number_is = { width_fault_number };
 
-fn water_of(water: u8) -> Water
-    ensures { result ≡ water_of water }
-{
-    if water == 1 {
-        Water::Sheltered
-    } else {
-        Water::Open
-    }
-}
+    ghost field_is = { λ _. 0 };
 
-fn speed_band_of(speed: u8) -> SpeedBand
-    ensures { result ≡ speed_band_of speed }
-{
-    if speed < 8 {
-        SpeedBand::Slow
-    } else {
-        SpeedBand::Moderate
+    fn number(self) -> u8 {
+        match self {
+            WidthFault::BendTooTight => 7,
+            WidthFault::NoWidthEntry => 8,
+        }
     }
+
+    fn field(self) -> u8 {
+        0
+    }
+
+    ghost some = { width_fault_some };
 }
 
 // The entries of the cross current and the wave, which are known before the depth is.
+#[tactic(auto, unfolding(crate::specs::Bands::entries_of))]
 pub fn entries_of(
     water: u8,
     speed: u8,
@@ -118,25 +158,20 @@ pub fn entries_of(
 ) -> Result<Entries, WidthFault>
     ensures { result ≡ entries_of water speed cross wave }
 {
-    let column = water_of(water);
-    let band = speed_band_of(speed);
-    let current = bands::cross_entry(column, band, cross);
-    let height = bands::wave_entry(column, band, wave);
-    match current {
-        None => Err(WidthFault::NoWidthEntry),
-        Some(across) => match height {
-            None => Err(WidthFault::NoWidthEntry),
-            Some(high) => Ok(Entries {
-                water: column,
-                band,
-                cross: across,
-                wave: high,
-            }),
-        },
-    }
+    let water = Water::from(water);
+    let band = SpeedBand::of(speed);
+    let cross = bands::cross_entry(water, band, cross).ok_or(WidthFault::NoWidthEntry)?;
+    let wave = bands::wave_entry(water, band, wave).ok_or(WidthFault::NoWidthEntry)?;
+    Ok(Entries {
+        water,
+        band,
+        cross,
+        wave,
+    })
 }
 
 // The items of a stretch with its entries, each by itself.
+#[tactic(auto, unfolding(crate::specs::Width::items_of))]
 pub fn items_of(stretch: Stretch, entries: Entries) -> Items
     ensures { result ≡ items_of stretch entries }
 {
@@ -159,17 +194,17 @@ pub fn items_of(stretch: Stretch, entries: Entries) -> Items
 }
 
 // The width of a stretch with its entries, in cm: its tenths of the beam, rounded up once.
+#[tactic(auto, using(crate::proofs::Ceilings::rounded_up), unfolding(crate::specs::Width::width_of))]
 pub fn width_of(stretch: Stretch, entries: Entries) -> u32
     ensures value { result ≡ width_of stretch entries }
     ensures small { result < 2 ^ 31 }
 {
-    let items = items_of(stretch, entries);
-    let lanes = stretch.lanes;
-    let tenths = tenths_of(items, lanes);
-    (tenths as u32 * stretch.beam as u32 + 9) / 10
+    let tenths = tenths_of(items_of(stretch, entries), stretch.lanes);
+    (tenths as u32 * stretch.beam as u32).div_ceil(10)
 }
 
 // The tenths of the beam that the items come to.
+#[tactic(auto, unfolding(crate::specs::Width::tenths_of))]
 pub fn tenths_of(items: Items, lanes: Lanes) -> u16
     ensures { result ≡ tenths_of lanes items }
 {
@@ -196,13 +231,15 @@ pub fn lane_and_added(items: Items) -> u16
 }
 
 // The least whole metres of radius that are not too tight for a turn, by the ship's length in cm.
+#[tactic(auto, using(crate::proofs::Ceilings::rounded_up), unfolding(crate::specs::Bends::least_radius))]
 pub fn least_radius(turn: u8, length: u16) -> u32
     ensures { result ≡ least_radius turn length }
 {
-    (bends::least_lengths(turn) * (length as u32) + 99) / 100
+    (bends::least_lengths(turn) as u32 * length as u32).div_ceil(100)
 }
 
 // What a bend of a turn in degrees and a radius in m asks for, by the ship's length in cm, its speed and the lanes.
+#[tactic(auto, unfolding(crate::specs::Bends::bend_of))]
 pub fn bend_of(
     turn: u8,
     radius: u16,
@@ -216,9 +253,9 @@ pub fn bend_of(
     if turn == 0 {
         return Ok(0);
     }
-    let reach = 100 * (radius as u32);
+    let reach = 100 * radius as u32;
     let ship = length as u32;
-    if reach < bends::least_lengths(turn) * ship {
+    if reach < bends::least_lengths(turn) as u32 * ship {
         return Err(WidthFault::BendTooTight);
     }
     if reach < 10 * ship {

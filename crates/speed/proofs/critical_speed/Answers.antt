@@ -3,26 +3,14 @@ use native.Mathlib.Omega.{arith}
 use Prim.Native.Nat.{◌≤◌}
 use borrow.Author.Rules.{rules}
 use Rattle.speed.specs.Lines.{parts_of}
-use Rattle.speed.specs.Critical.{critical_speed}
 use Rattle.speed.proofs.lines.Sizes.{times_within, weighed_within}
 use Rattle.speed.proofs.critical_speed.Goals as goal
 
-pub weighed_of-requires : goal.weighed_of-requires
-weighed_of-requires c =
-    let shallow : parts_of c.times_of-shallow.result ≤ 510000000 =
-    times_within 20000 25500 510000000 c.shallow_speed.result _ c.times_of-shallow.ensures c.shallow_speed.ensures.small (omega arith) in
-    let full = c.full_speed-full.ensures.small in
-    (search rules, (search rules, (omega arith, omega arith)))
-
-pub returns : goal.returns
-unfolding critical_speed
-returns c =
-    let dug = c.dug_of-dug.ensures in
+pub returns-clause-small : goal.returns-clause-small
+returns-clause-small c =
+    let dug = c.dug-dug.ensures in
     let shallow : parts_of c.times_of-shallow.result ≤ 510000000 =
     times_within 20000 25500 510000000 c.shallow_speed.result _ c.times_of-shallow.ensures c.shallow_speed.ensures.small (omega arith) in
     let most : parts_of c.weighed_of.result ≤ 33422850000000 =
     weighed_within _ _ 510000000 33422850000000 _ _ _ c.weighed_of.ensures shallow c.full_speed-full.ensures.small (search rules) in
-    record {
-      value = rw (c.weighed_of.ensures, c.times_of-shallow.ensures, c.shallow_speed.ensures.value, c.full_speed-full.ensures.value, dug.0);
-      small = omega arith;
-    }
+    omega arith

@@ -1,14 +1,21 @@
 -- `speed::lines::slope_speed` meets its contract: its neighbours are the rows of two slopes.
+use mathlib.Core.Path.{◌≡◌}
+use Prim.Native.Nat.{◌+◌, ◌/◌, ◌≤◌}
 use native.Mathlib.Omega.{arith}
-use Rattle.speed.specs.Lines.{straight}
+use borrow.Author.Rules.{rules}
+use Rattle.speed.specs.Lines.{parts_of, straight}
+use Rattle.speed.specs.Table.{full_row}
+use Rattle.speed.specs.Critical.{row_speed}
 use Rattle.speed.proofs.lines.Sizes.{weighed_within}
 use Rattle.speed.proofs.lines.slope_speed.Goals as goal
 
 pub returns : goal.returns
 unfolding straight
 returns c =
-    let here = c.row_speed-here.ensures in
-    let next = c.row_speed-next.ensures in record {
-      value = rw (c.weighed_of.ensures, here.value, c.full_row.ensures, next.value, c.full_row-2.ensures);
-      small = weighed_within _ _ 25500 102000 _ _ _ c.weighed_of.ensures here.small next.small (omega arith);
+    let (here, next, near, far, is) = c.straight_line.ensures in
+    let at-here : (here ≡ row_speed (full_row c.args.width (c.args.slope / 4)) c.args.depth) × (parts_of here ≤ 25500) = search rules in
+    let at-next : (next ≡ row_speed (full_row c.args.width (c.args.slope / 4 + 1)) c.args.depth) × (parts_of next ≤ 25500) = search rules in
+    record {
+      value = rw (is, at-here.0, at-next.0);
+      small = weighed_within _ _ 25500 102000 _ _ _ is at-here.1 at-next.1 (omega arith);
     }

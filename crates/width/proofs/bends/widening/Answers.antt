@@ -1,11 +1,14 @@
 -- `width::bends::widening` meets its contract: the fraction in its lowest terms, divided in two steps, is the definition's, and fits.
+use mathlib.Core.Path.{◌∙◌}
 use Prim.Native.Nat.{ℕ, ◌*◌, ◌≤◌, ◌<◌}
 use native.Mathlib.Nat.{mul-le-mul}
 use native.Mathlib.Omega.{arith}
 use borrow.Author.Rules.{rules}
 use Rattle.laws.specs.Rounding.{up}
 use Rattle.lanes.proofs.Promises.{lanes_within}
-use Rattle.width.proofs.bends.Products.{square_within, turned_within, ship_within, scaled_within, widening_within, widening_is}
+use Rattle.width.proofs.Ceilings.{rounded_up}
+use Rattle.width.proofs.bends.Products.{square_within, turned_within, ship_within, widening_within, widening_is}
+use Rattle.width.proofs.bends.widening.Goals.{After-scaled}
 use Rattle.width.proofs.bends.widening.Goals as goal
 
 pub overflow_mul-ship-2 : goal.overflow_mul-ship-2
@@ -30,12 +33,8 @@ module _ (c : goal.After-lane_count) where
   square_small : start.args.length * start.args.length ≤ 65535 * 65535
   square_small = mul-le-mul {n₁ = start.args.length} {m₁ = start.args.length} {n₂ = 65535} {m₂ = 65535} (search rules) (search rules)
 
--- and so is what comes before the radius, and the widening
-module _ (c : goal.After-scaled) where
-  before_radius : c.scaled.result ≤ 124 * (65535 * 65535)
-  before_radius =
-      omega (arith, square_small c.before, scaled_within (ship c.before) c.args.length c.scaled.result (ship_small c.before) c.scaled.ensures)
-
+-- and so is the widening
+module _ (c : After-scaled) where
   small : up c.scaled.result c.args.radius ≤ 4134 * 65535
   small =
       omega (arith, widening_within (ship c.before) c.args.length c.scaled.result (ship_small c.before) c.scaled.ensures c.args.radius c.requires)
@@ -43,20 +42,17 @@ module _ (c : goal.After-scaled) where
 pub overflow_mul-ship-4 : goal.overflow_mul-ship-4
 overflow_mul-ship-4 c = record { fits = omega (arith, ship_small c) }
 
-pub overflow_mul-square : goal.overflow_mul-square
-overflow_mul-square c = record { fits = omega (arith, square_small c) }
+pub overflow_mul-length : goal.overflow_mul-length
+overflow_mul-length c = record { fits = omega (arith, square_small c) }
 
 pub scaled-requires : goal.scaled-requires
 scaled-requires c = (ship_small c, omega (arith, square_small c))
 
-pub overflow_add-result : goal.overflow_add-result
-overflow_add-result c = record { fits = omega (arith, before_radius c) }
-
 pub overflow_cast-result : goal.overflow_cast-result
-overflow_cast-result c = record { fits = omega (arith, small c) }
+overflow_cast-result c = record { fits = omega (arith, small c.before, rounded_up _ _ _ c.requires.some c.div_ceil.ensures) }
 
 pub returns : goal.returns
 returns c = record {
-  value = widening_is _ _ _ _ _ _ _ c.requires.some c.lane_count.ensures c.scaled.ensures;
-  small = omega (arith, small c);
+  value = rounded_up _ _ _ c.requires.some c.div_ceil.ensures ∙ widening_is _ _ _ _ _ _ _ c.requires.some c.lane_count.ensures c.scaled.ensures;
+  small = omega (arith, small c.before, rounded_up _ _ _ c.requires.some c.div_ceil.ensures);
 }
