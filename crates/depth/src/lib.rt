@@ -55,7 +55,7 @@ pub struct Try {
 
 // Why the worksheet cannot use a column: no entry in the squat table, silt over 120 or endless, a cut over 3,000, tested in this
 // order.
-#[derive(Clone, Copy, PartialEq, Eq)]
+#[derive(Clone, Copy)]
 pub enum DepthFault {
     NoSquatEntry,
     SiltOver,
@@ -63,7 +63,7 @@ pub enum DepthFault {
 }
 
 // What a try comes to: the worksheet stays in its column, or moves to the one its figure falls in, or cannot use the column.
-#[derive(Clone, Copy, PartialEq, Eq)]
+#[derive(Clone, Copy)]
 pub enum Finding {
     Stays,
     Moves,
@@ -161,7 +161,7 @@ pub fn interval_of(code: u8) -> u16
 pub fn squat_of(lanes: Lanes, column: Column, speed: u8) -> u16
     ensures { result ≡ squat_of lanes column speed }
 {
-    if speed < 2 || 12 < speed {
+    if !(2..=12).contains(&speed) {
         return NONE;
     }
     SQUAT[column as usize][lanes as usize][speed as usize - 2]
@@ -294,10 +294,11 @@ pub fn finding_of(tried: Try) -> Result<Finding, DepthFault>
 }
 
 // Whether the worksheet goes on to another column.
+#[tactic(auto, unfolding(crate::specs::Worksheet::moves_on))]
 fn moves_on(tried: Try) -> bool
     ensures { result ≡ moves_on tried }
 {
-    finding_of(tried) == Ok(Finding::Moves)
+    matches!(finding_of(tried), Ok(Finding::Moves))
 }
 
 // The worksheet: it begins in column A and moves to the column its figure falls in; from a third it never moves.

@@ -2,7 +2,7 @@
 use mathlib.Core.Path.{◌≡◌, refl}
 use mathlib.Core.List.{[]}
 use Prim.Native.Nat.{◌+◌, ◌*◌}
-use native.Mathlib.Omega.{arith}
+use borrow.Author.Rules.{rules}
 use lib.ListN.{get_or}
 use denote.Enum.Declared.{tag_of}
 use Rattle.lanes.specs.declared.Lanes.{Lanes}
@@ -29,4 +29,4 @@ row_is Two C = refl
 pub returns : goal.returns
 returns c =
     let a = c.args in
-    rw (row_is a.lanes a.column) (in_table _ _ _ (omega arith) (omega arith))
+    rw (row_is a.lanes a.column) (in_table _ _ _ (search rules) (search rules))

@@ -4,10 +4,6 @@ use mathlib.Core.Path.{◌≡◌, refl, subst}
 use mathlib.Core.Bool.{Bool, true, false}
 use Prim.Native.Nat.{◌≤◌, ◌<◌}
 use native.Mathlib.Omega.{arith}
-use denote.Enum.Bare.{sameb}
-use Rattle.std.specs.Result.{result_eq}
-use Rattle.depth.specs.contracts.Finding as findings
-use Rattle.depth.specs.contracts.DepthFault as faults
 use borrow.Author.Tests.{leb-true, leb-false, ltb-true, ltb-false, eqb-true, eqb-false, le-leb, lt-leb, lt-ltb, le-ltb, eq-eqb, ne_eqb}
 use lib.Dec.{leb, ltb, eqb}
 use Rattle.laws.specs.Choice.{ifᵇ◌then◌else◌}
@@ -17,7 +13,7 @@ use Rattle.depth.specs.declared.DepthFault.TheVariants.{NoSquatEntry, SiltOver, 
 use Rattle.depth.specs.declared.Finding.TheVariants.{Stays, Moves}
 use Rattle.depth.specs.Squat.{none, column_number}
 use Rattle.depth.specs.Depth.{depth_fault_number}
-use Rattle.depth.specs.Worksheet.{finding_of, is_move}
+use Rattle.depth.specs.Worksheet.{finding_of}
 use Rattle.depth.specs.declared.Finding.{Finding}
 
 module _ (t : Try) where
@@ -91,9 +87,3 @@ finding_says t =
 
 pub stays_within : (t : Try) → finding_of t ≡ (Ok Stays) → Within t
 stays_within t e = (subst (Says t) e (finding_says t)).0
-
--- one finding moves
-pub moves_alone : (f : Result Finding DepthFault) → result_eq (sameb findings.the_type) (sameb faults.the_type) f (Ok Moves) ≡ is_move f
-moves_alone (Ok Stays) = refl
-moves_alone (Ok Moves) = refl
-moves_alone (Err fault) = refl

@@ -4,4 +4,4 @@ use Rattle.engine.proofs.meets_it.Goals as goal
 
 pub returns : goal.returns
 unfolding meets
-returns c = rw c.column_at-column.ensures at c.serves_cut.ensures
+returns c = rw (c.at_cut.ensures.0, c.at_cut.ensures.1) at c.serves.ensures
