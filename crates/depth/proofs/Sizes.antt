@@ -1,7 +1,7 @@
 -- What the sums and products of the depth come to, at most, for numbers of the widths that a stretch has.
-use Prim.Native.Nat.{ℕ, ◌+◌, ◌-◌, ◌*◌, ◌^◌, ◌≤◌, ◌<◌}
+use Prim.Native.Nat.{ℕ, ◌+◌, ◌-◌, ◌*◌, ◌^◌, ◌<◌}
 use mathlib.Core.Path.{◌≡◌}
-use native.Mathlib.Nat.{le_antisymm, le-div_iff_mul-le, mul-le-mul, div-le_self}
+use native.Mathlib.Nat.{le_antisymm, le-div_iff_mul-le, div-le_self}
 use native.Mathlib.Omega.{arith}
 use Rattle.laws.specs.Rounding.{up}
 use Rattle.laws.proofs.Rounding.{up_le}
@@ -17,9 +17,6 @@ pub ceiling_is : (a b : ℕ) → 0 < b → div_ceil a b ≡ up a b
 ceiling_is a b some =
     let times = div_ceil_times a b some in
     le_antisymm ((le-div_iff_mul-le some).1 (omega (arith, times.1))) ((up_le a b (div_ceil a b) some).1 times.0)
-
-pub keel_product : {draft soil : ℕ} → draft < 2 ^ 16 → soil < 2 ^ 8 → draft * (4 + soil) ≤ 65535 * 259
-keel_product {draft} {soil} d s = mul-le-mul (let h : draft ≤ 65535 = omega arith in h) (let h : 4 + soil ≤ 259 = omega arith in h)
 
 pub filling_product : {filling dug : ℕ} → filling < 100000 → dug < 2 ^ 19 → filling * dug < 2 ^ 36
 filling_product {filling} f d = product_lt 17 19 (let h : filling < 2 ^ 17 = omega arith in h) d

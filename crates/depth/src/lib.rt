@@ -69,7 +69,8 @@ pub enum Finding {
     Moves,
 }
 
-// The worksheet: its tries in order, `count` of them, then blank ones.
+// The worksheet: its tries in order, `count` of them, then blank ones. An array, since nothing here takes memory, and one with no ghost
+// field, since `one_worksheet` and its neighbours speak of this very record. `last` and `tries` read it, whatever it counts.
 #[derive(Clone, Copy)]
 pub struct Worksheet {
     pub tries: [Try; 3],
@@ -157,7 +158,6 @@ pub fn interval_of(code: u8) -> u16
 }
 
 // The squat of a column at a speed; a speed outside the table has no entry.
-#[tactic(auto, using(crate::proofs::squat::Table::too_slow, crate::proofs::squat::Table::too_fast))]
 pub fn squat_of(lanes: Lanes, column: Column, speed: u8) -> u16
     ensures { result ≡ squat_of lanes column speed }
 {
@@ -186,6 +186,7 @@ fn dug_to(depth: ReckonedDepth, natural: BelowLevel) -> u64
 }
 
 // The column that a cut falls in: A while at most half of it is dug, B while at most eight tenths.
+#[tactic(auto, using(crate::proofs::squat::Columns::column_a, crate::proofs::squat::Columns::column_b, crate::proofs::squat::Columns::column_c))]
 fn column_of(natural: BelowLevel, cut: ReckonedDepth) -> Column
     requires { cut.0 < 2 ^ 60 }
     ensures { result ≡ column_of natural.0 cut.0 }
@@ -273,7 +274,7 @@ impl Stretch {
 }
 
 // The limits of a column in the order of the worksheet, and then where its figure falls.
-#[tactic(auto, using(crate::proofs::walks::Findings::no_entry, crate::proofs::walks::Findings::too_much_silt))]
+#[tactic(auto, using(crate::proofs::walks::Findings::no_entry, crate::proofs::walks::Findings::too_much_silt, crate::proofs::walks::Findings::too_deep))]
 pub fn finding_of(tried: Try) -> Result<Finding, DepthFault>
     ensures { result ≡ finding_of tried }
 {

@@ -47,6 +47,7 @@ fn dug_of(natural: BelowLevel, d: u64) -> u64
 
 // The column of a cut d: A when 10h ≤ 5d, B when 10h ≤ 8d, else C. `depth` has this rule for its worksheet; here it is read of the definition again, so that
 // neither engine rests on the other's reading.
+#[tactic(auto, using(depth::proofs::squat::Columns::column_a, depth::proofs::squat::Columns::column_b, depth::proofs::squat::Columns::column_c))]
 fn column_at(natural: BelowLevel, d: u64) -> Column
     requires { d < 2 ^ 20 }
     ensures { result ≡ column_of natural.0 d }
@@ -62,6 +63,15 @@ fn column_at(natural: BelowLevel, d: u64) -> Column
 }
 
 impl InColumn {
+    // A stretch in the column in which a cut d falls.
+    fn of_cut(stretch: Stretch, d: u64) -> InColumn
+        requires { d < 2 ^ 20 }
+        ensures { (result.stretch ≡ stretch) × (result.column ≡ column_of stretch.natural.0 d) }
+    {
+        let column = column_at(stretch.natural, d);
+        InColumn { stretch, column }
+    }
+
     // z3: the squat at the ship's speed.
     #[tactic(auto, unfolding(depth::specs::Depth::z3))]
     fn squat(self) -> u16
@@ -152,23 +162,12 @@ fn by_figure(natural: BelowLevel, d: u64) -> Result<Column, DepthFault>
     Ok(column_at(natural, d))
 }
 
-// A stretch in the column in which a cut d falls.
-fn at_cut(stretch: Stretch, d: u64) -> InColumn
-    requires { d < 2 ^ 20 }
-    ensures { (result.stretch ≡ stretch) × (result.column ≡ column_of stretch.natural.0 d) }
-{
-    InColumn {
-        stretch,
-        column: column_at(stretch.natural, d),
-    }
-}
-
 // Whether a cut d meets the definition: the column in which it falls serves it.
 fn meets_it(stretch: Stretch, d: u64) -> bool
     requires { d < 2 ^ 20 }
     ensures { result ≡ meets stretch d }
 {
-    at_cut(stretch, d).serves(d)
+    InColumn::of_cut(stretch, d).serves(d)
 }
 
 // The first cut from 1 to 3,000 that meets the definition.
@@ -203,7 +202,7 @@ fn figures_at(stretch: Stretch, d: u64) -> PlainFigures
     requires { (d < 2 ^ 16) × (meets stretch d ≡ true) }
     ensures { result ≡ figures_at stretch d }
 {
-    let s = at_cut(stretch, d).sailing();
+    let s = InColumn::of_cut(stretch, d).sailing();
     PlainFigures {
         cut: BelowLevel(d as u16),
         sailing: BelowLevel(s as u16),

@@ -3,11 +3,8 @@ use mathlib.Core.Path.{◌≡◌}
 use native.Mathlib.Omega.{arith}
 use borrow.Author.Rules.{rules}
 use Rattle.depth.proofs.squat.Columns.{same_column}
-use Rattle.depth.proofs.walks.Findings.{too_deep, stays, moves}
+use Rattle.depth.proofs.walks.Findings.{stays, moves}
 use Rattle.depth.proofs.finding_of.Goals as goal
-
-pub returns-then-tried-gt3000 : goal.returns-then-tried-gt3000
-returns-then-tried-gt3000 c = too_deep _ (omega arith) (omega arith) (omega arith)
 
 pub returns-then-eq : goal.returns-then-eq
 returns-then-eq c =

@@ -13,7 +13,7 @@ use Rattle.depth.specs.declared.Column.{Column}
 use Rattle.depth.specs.declared.Column.TheVariants.{A, B, C}
 use Rattle.depth.specs.declared.TheConstants.{SQUAT}
 use Rattle.depth.specs.Squat.{squat_table, column_number, squat_reading}
-use Rattle.depth.proofs.squat.Table.{in_table}
+use Rattle.depth.proofs.squat.Table.{outside, in_table}
 use Rattle.depth.proofs.squat_of.Goals as goal
 
 -- the row of a column and a reading
@@ -25,6 +25,9 @@ row_is One B = refl
 row_is Two B = refl
 row_is One C = refl
 row_is Two C = refl
+
+pub returns-then-not-contains : goal.returns-then-not-contains
+returns-then-not-contains c = outside _ _ _ (λ from to. search rules)
 
 pub returns : goal.returns
 returns c =

@@ -8,7 +8,7 @@ use Rattle.engine.proofs.figures_at.Goals as goal
 
 -- the s of the cut's own column
 own_sailing : (c : goal.After-sailing-s) → c.sailing-s.result ≡ sailing c.args.stretch (own_column c.args.stretch c.args.d)
-own_sailing c = c.sailing-s.ensures.0 ∙ ap₂ sailing c.at_cut.ensures.0 c.at_cut.ensures.1
+own_sailing c = c.sailing-s.ensures.0 ∙ ap₂ sailing c.of_cut.ensures.0 c.of_cut.ensures.1
 
 pub overflow_cast-result-2 : goal.overflow_cast-result-2
 overflow_cast-result-2 c =

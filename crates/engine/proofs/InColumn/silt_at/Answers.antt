@@ -1,7 +1,8 @@
 -- `engine::InColumn::silt_at` meets its contract: no silt where s is not over N, else the part of what is dug.
-use mathlib.Core.Path.{sym, ◌∙◌}
+use mathlib.Core.Path.{◌≡◌, sym, ◌∙◌}
 use Prim.Native.Nat.{◌*◌, ◌^◌, ◌<◌}
 use native.Mathlib.Omega.{arith}
+use Rattle.laws.specs.Rounding.{up}
 use Rattle.laws.proofs.Products.{product_lt}
 use Rattle.depth.proofs.Sizes.{ceiling_is}
 use Rattle.depth.proofs.cuts.Settling.{z4_none, z4_some}
@@ -17,5 +18,5 @@ returns c =
     let q = a.self.stretch in
     let yearly : q.silting * q.interval < 2 ^ 32 = product_lt 16 16 (search rules) (search rules) in
     let fallen : q.silting * q.interval * c.dug_of-h.result < 2 ^ 52 = product_lt 32 20 yearly (omega arith) in
-    let up_is = c.div_ceil.ensures ∙ ceiling_is _ _ (omega arith) in
-    (rw (up_is, c.dug_of-h.ensures) (sym (z4_some q a.self.column (omega arith) a.d)), rw up_is (omega arith))
+    let reached : c.div_ceil.result ≡ up (q.silting * q.interval * c.dug_of-h.result) 100000 = c.div_ceil.ensures ∙ ceiling_is _ _ (omega arith) in
+    (reached ∙ rw c.dug_of-h.ensures (sym (z4_some q a.self.column (omega arith) a.d)), rw reached (omega arith))
