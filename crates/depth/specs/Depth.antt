@@ -1,5 +1,6 @@
 -- Depth below the design level (sections 4.2 to 4.6), all in cm: what the cut is, with no method of finding it.
 use Rattle.std.specs.Prelude.{◌≡◌, ◌⊎◌, ℕ, ◌+◌, ◌*◌, ◌≤◌, ◌<◌, Result, Ok, Err}
+use Rattle.std.proofs.Common.{lit≤}
 use Rattle.laws.specs.Choice.{ifᵇ◌then◌else◌, ◌≤ᵇ◌}
 use Rattle.laws.specs.Rounding.{up}
 use Rattle.laws.specs.Extremes.{Least}
@@ -107,6 +108,12 @@ abbrev pub depth_fault_number : DepthFault → ℕ
 depth_fault_number NoSquatEntry = 13
 depth_fault_number SiltOver = 14
 depth_fault_number CutOver = 15
+
+-- 0 is the number of none
+pub depth_fault_some : (fault : DepthFault) → 1 ≤ depth_fault_number fault
+depth_fault_some NoSquatEntry = lit≤ tt
+depth_fault_some SiltOver = lit≤ tt
+depth_fault_some CutOver = lit≤ tt
 
 -- the number of a depth, 0 for none
 abbrev pub depth_number : Result DepthFigures DepthFault → ℕ

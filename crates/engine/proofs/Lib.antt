@@ -1,4 +1,3 @@
-mod Sizes
 mod Searches
 mod Tests
 mod Serving

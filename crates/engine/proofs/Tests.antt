@@ -1,5 +1,6 @@
 -- The tests of the plain engine, by what they come to.
-use Rattle.std.specs.Prelude.{Some, Ok, Err}
+use Rattle.std.specs.Prelude.{Option, Some, None, Ok, Err}
+use Rattle.std.specs.Option.{ok_or}
 use mathlib.Core.Path.{◌≡◌, sym, ap, ◌∙◌}
 use mathlib.Core.Bool.{false}
 use Prim.Native.Nat.{ℕ, suc, ◌-◌, ◌≤◌, ◌<◌}
@@ -8,9 +9,9 @@ use borrow.Author.Tests.{le-leb, lt-leb, lt-ltb, le-ltb}
 use Rattle.depth.specs.declared.Stretch.{Stretch}
 use Rattle.depth.specs.declared.Column.{Column}
 use Rattle.depth.specs.declared.DepthFault.{DepthFault}
-use Rattle.depth.specs.declared.DepthFault.TheVariants.{NoSquatEntry, CutOver}
+use Rattle.depth.specs.declared.DepthFault.TheVariants.{NoSquatEntry, SiltOver, CutOver}
 use Rattle.depth.specs.Squat.{none}
-use Rattle.depth.specs.Depth.{natural_of, column_of, z3, z4}
+use Rattle.depth.specs.Depth.{natural_of, z3, z4}
 use Rattle.engine.specs.Plain.{deep, serves, by_figure, by_ruling, first_figure, ruling_of, reason_from}
 
 module _ (q : Stretch) (c : Column) where
@@ -53,10 +54,12 @@ module _ (q : Stretch) where
   unfolding reason_from
   none_left left c h = let f : left ≡ 0 = omega arith in rw f
 
--- the two ways of a figure
-module _ (natural d : ℕ) where
-  pub figure_over : 3000 < d → Err CutOver ≡ by_figure natural (Some d)
-  figure_over h = simp (lt-ltb _ _ h)
+-- a figure that was asked for, or the fault of none
+module _ (natural : ℕ) where
+  pub asked_found : (figure : Option ℕ) (d : ℕ) → ok_or figure SiltOver ≡ Ok d → by_figure natural (Some d) ≡ by_figure natural figure
+  asked_found (Some e) d is = let same : e ≡ d = cc in rw same
+  asked_found None d is = cc
 
-  pub figure_falls : d ≤ 3000 → Ok (column_of natural d) ≡ by_figure natural (Some d)
-  figure_falls h = simp (le-ltb _ _ h)
+  pub asked_none : (figure : Option ℕ) (fault : DepthFault) → ok_or {T = ℕ} figure SiltOver ≡ Err fault → Err fault ≡ by_figure natural figure
+  asked_none (Some e) fault is = cc
+  asked_none None fault is = cc

@@ -10,6 +10,7 @@ ghost use Rattle.engine.specs.Numbers.{plain_numbers};
 
 use datum::BelowLevel;
 use depth::{Column, DepthFault, Stretch};
+use laws::Refusal;
 
 // A cut and the sailing depth of its column.
 #[derive(Clone, Copy)]
@@ -27,18 +28,26 @@ const DEEPEST: u64 = 3000;
 // The most silt.
 const MOST_SILT: u64 = 120;
 
+// How many columns the squat table has.
+const COLUMNS: u8 = 3;
+
+// A stretch in a column of the squat table.
+#[derive(Clone, Copy)]
+struct InColumn {
+    stretch: Stretch,
+    column: Column,
+}
+
 // h: how much of a depth d is dug, d - N, or 0 if negative.
 fn dug_of(natural: BelowLevel, d: u64) -> u64
     ensures { result ≡ dug natural.0 d }
 {
-    let n = natural.0 as u64;
-    if d < n {
-        return 0;
-    }
-    d - n
+    d.saturating_sub(natural.0 as u64)
 }
 
-// The column of a cut d: A when 10h ≤ 5d, B when 10h ≤ 8d, else C.
+// The column of a cut d: A when 10h ≤ 5d, B when 10h ≤ 8d, else C. `depth` has this rule for its worksheet; here it is read of the definition again, so that
+// neither engine rests on the other's reading.
+#[tactic(auto, using(depth::proofs::squat::Columns::column_a, depth::proofs::squat::Columns::column_b, depth::proofs::squat::Columns::column_c))]
 fn column_at(natural: BelowLevel, d: u64) -> Column
     requires { d < 2 ^ 20 }
     ensures { result ≡ column_of natural.0 d }
@@ -53,115 +62,93 @@ fn column_at(natural: BelowLevel, d: u64) -> Column
     Column::C
 }
 
-// z3: the squat of a column at the ship's speed.
-fn squat_in(stretch: Stretch, column: Column) -> u16
-    ensures { result ≡ z3 stretch column }
-{
-    let lanes = stretch.lanes;
-    depth::squat_of(lanes, column, stretch.speed)
-}
-
-// s = draft + z0 + z1 + z2 + z3.
-fn sailing_in(stretch: Stretch, column: Column) -> u64
-    ensures { (result ≡ sailing stretch column) × (result < 2 ^ 19) }
-{
-    let added = depth::allowances_of(stretch);
-    let squat = squat_in(stretch, column);
-    stretch.draft as u64 + added.list + added.keel + added.wave + squat as u64
-}
-
-// z4 of a cut d: P × interval × (d - N, or 0 if negative) / 100,000, rounded up; 0 when s ≤ N.
-fn silt_at(stretch: Stretch, column: Column, d: u64) -> u64
-    requires { d < 2 ^ 20 }
-    ensures { (result ≡ z4 stretch column d) × (result < 2 ^ 36) }
-{
-    let natural = stretch.natural;
-    let s = sailing_in(stretch, column);
-    let h = dug_of(natural, d);
-    let silting = stretch.silting as u64;
-    let interval = stretch.interval as u64;
-    if s <= natural.0 as u64 {
-        return 0;
+impl InColumn {
+    // A stretch in the column in which a cut d falls.
+    fn of_cut(stretch: Stretch, d: u64) -> InColumn
+        requires { d < 2 ^ 20 }
+        ensures { (result.stretch ≡ stretch) × (result.column ≡ column_of stretch.natural.0 d) }
+    {
+        let column = column_at(stretch.natural, d);
+        InColumn { stretch, column }
     }
-    (silting * interval * h + 99999) / 100000
-}
 
-// Whether a cut d is deep enough in a column: at least s + z4, the z4 of d itself.
-fn is_deep(stretch: Stretch, column: Column, d: u64) -> bool
-    requires { d < 2 ^ 20 }
-    ensures { result ≡ deep stretch column d }
-{
-    let s = sailing_in(stretch, column);
-    let silt = silt_at(stretch, column, d);
-    s + silt <= d
-}
-
-// Whether a column serves a cut d: it has an entry, z4 is at most 120, and d is deep enough.
-#[tactic(auto, using(crate::proofs::Tests::no_entry, crate::proofs::Tests::much_silt))]
-fn serves_cut(stretch: Stretch, column: Column, d: u64) -> bool
-    requires { d < 2 ^ 20 }
-    ensures { result ≡ serves stretch column d }
-{
-    if depth::NONE <= squat_in(stretch, column) {
-        return false;
+    // z3: the squat at the ship's speed.
+    #[tactic(auto, unfolding(depth::specs::Depth::z3))]
+    fn squat(self) -> u16
+        ensures { result ≡ z3 self.stretch self.column }
+    {
+        depth::squat_of(self.stretch.lanes, self.column, self.stretch.speed)
     }
-    if MOST_SILT < silt_at(stretch, column, d) {
-        return false;
+
+    // s = draft + z0 + z1 + z2 + z3.
+    fn sailing(self) -> u64
+        ensures { (result ≡ sailing self.stretch self.column) × (result < 2 ^ 19) }
+    {
+        let added = depth::allowances_of(self.stretch);
+        self.stretch.draft as u64 + added.list + added.keel + added.wave + self.squat() as u64
     }
-    is_deep(stretch, column, d)
-}
 
-// Whether a cut d meets the definition: the column in which it falls serves it.
-fn meets_it(stretch: Stretch, d: u64) -> bool
-    requires { d < 2 ^ 20 }
-    ensures { result ≡ meets stretch d }
-{
-    let natural = stretch.natural;
-    let column = column_at(natural, d);
-    serves_cut(stretch, column, d)
-}
-
-// The first cut from 1 to 3,000 that meets the definition.
-fn first_cut(stretch: Stretch) -> Option<u64>
-    ensures { result ≡ first_cut stretch }
-{
-    let mut d: u64 = 1;
-    while d <= DEEPEST {
-        if meets_it(stretch, d) {
-            return Some(d);
+    // z4 of a cut d: P × interval × (d - N, or 0 if negative) / 100,000, rounded up; 0 when s ≤ N.
+    fn silt_at(self, d: u64) -> u64
+        requires { d < 2 ^ 20 }
+        ensures { (result ≡ z4 self.stretch self.column d) × (result < 2 ^ 36) }
+    {
+        let natural = self.stretch.natural;
+        let s = self.sailing();
+        let h = dug_of(natural, d);
+        if s <= natural.0 as u64 {
+            return 0;
         }
-        d += 1;
+        (self.stretch.silting as u64 * self.stretch.interval as u64 * h).div_ceil(100000)
     }
-    None
-}
 
-// The figure of a column, where its z4 is at most 120: the first d from s on that is deep enough. It is s + z4, so the last to try is s + 120.
-fn first_figure(stretch: Stretch, column: Column) -> Option<u64>
-    ensures { result ≡ first_figure stretch column }
-{
-    let s = sailing_in(stretch, column);
-    let mut figure = s;
-    while figure <= s + MOST_SILT {
-        if is_deep(stretch, column, figure) {
-            return Some(figure);
+    // Whether a cut d is deep enough: at least s + z4, the z4 of d itself.
+    fn is_deep(self, d: u64) -> bool
+        requires { d < 2 ^ 20 }
+        ensures { result ≡ deep self.stretch self.column d }
+    {
+        let s = self.sailing();
+        let silt = self.silt_at(d);
+        s + silt <= d
+    }
+
+    // Whether the column serves a cut d: it has an entry, z4 is at most 120, and d is deep enough.
+    #[tactic(auto, using(crate::proofs::Tests::no_entry, crate::proofs::Tests::much_silt))]
+    fn serves(self, d: u64) -> bool
+        requires { d < 2 ^ 20 }
+        ensures { result ≡ serves self.stretch self.column d }
+    {
+        if depth::NONE <= self.squat() {
+            return false;
         }
-        figure += 1;
+        if MOST_SILT < self.silt_at(d) {
+            return false;
+        }
+        self.is_deep(d)
     }
-    None
-}
 
-// The rules of a column in their order: an entry, silt of at most 120, a figure of at most 3,000; and then where that falls.
-fn ruling_of(stretch: Stretch, column: Column) -> Result<Column, DepthFault>
-    ensures { result ≡ ruling_of stretch column }
-{
-    let natural = stretch.natural;
-    if depth::NONE <= squat_in(stretch, column) {
-        return Err(DepthFault::NoSquatEntry);
+    // The figure of the column, where its z4 is at most 120: the first d from s on that is deep enough. It is s + z4, so the last to try is s + 120.
+    fn first_figure(self) -> Option<u64>
+        ensures { result ≡ first_figure self.stretch self.column }
+    {
+        let s = self.sailing();
+        for figure in s..=s + MOST_SILT {
+            if self.is_deep(figure) {
+                return Some(figure);
+            }
+        }
+        None
     }
-    let figure = first_figure(stretch, column);
-    match figure {
-        Some(d) => by_figure(natural, d),
-        None => Err(DepthFault::SiltOver),
+
+    // The rules of the column in their order: an entry, silt of at most 120, a figure of at most 3,000; and then where that falls.
+    fn ruling(self) -> Result<Column, DepthFault>
+        ensures { result ≡ ruling_of self.stretch self.column }
+    {
+        if depth::NONE <= self.squat() {
+            return Err(DepthFault::NoSquatEntry);
+        }
+        let figure = self.first_figure().ok_or(DepthFault::SiltOver)?;
+        by_figure(self.stretch.natural, figure)
     }
 }
 
@@ -175,22 +162,35 @@ fn by_figure(natural: BelowLevel, d: u64) -> Result<Column, DepthFault>
     Ok(column_at(natural, d))
 }
 
+// Whether a cut d meets the definition: the column in which it falls serves it.
+fn meets_it(stretch: Stretch, d: u64) -> bool
+    requires { d < 2 ^ 20 }
+    ensures { result ≡ meets stretch d }
+{
+    InColumn::of_cut(stretch, d).serves(d)
+}
+
+// The first cut from 1 to 3,000 that meets the definition.
+fn first_cut(stretch: Stretch) -> Option<u64>
+    ensures { result ≡ first_cut stretch }
+{
+    for d in 1..=DEEPEST {
+        if meets_it(stretch, d) {
+            return Some(d);
+        }
+    }
+    None
+}
+
 // Why no cut meets the definition: from column A on, the test by which the first column fails that cannot be used.
 fn reason_of(stretch: Stretch) -> DepthFault
     ensures { result ≡ reason_of stretch }
 {
     let mut column = Column::A;
-    let mut left: u8 = 3;
-    while 0 < left {
-        left -= 1;
-        let ruling = ruling_of(stretch, column);
-        match ruling {
-            Err(fault) => {
-                return fault;
-            }
-            Ok(next) => {
-                column = next;
-            }
+    for _ in 0..COLUMNS {
+        match (InColumn { stretch, column }).ruling() {
+            Err(fault) => return fault,
+            Ok(next) => column = next,
         }
     }
     // no figure falls back, so that no fourth column is come to
@@ -202,9 +202,7 @@ fn figures_at(stretch: Stretch, d: u64) -> PlainFigures
     requires { (d < 2 ^ 16) × (meets stretch d ≡ true) }
     ensures { result ≡ figures_at stretch d }
 {
-    let natural = stretch.natural;
-    let column = column_at(natural, d);
-    let s = sailing_in(stretch, column);
+    let s = InColumn::of_cut(stretch, d).sailing();
     PlainFigures {
         cut: BelowLevel(d as u16),
         sailing: BelowLevel(s as u16),
@@ -215,8 +213,7 @@ fn figures_at(stretch: Stretch, d: u64) -> PlainFigures
 pub fn plain_depth(stretch: Stretch) -> Result<PlainFigures, DepthFault>
     ensures { result ≡ plain_depth stretch }
 {
-    let found = first_cut(stretch);
-    match found {
+    match first_cut(stretch) {
         Some(d) => Ok(figures_at(stretch, d)),
         None => Err(reason_of(stretch)),
     }
@@ -228,6 +225,6 @@ pub fn plain_numbers(depth: Result<PlainFigures, DepthFault>) -> [u64; PLAIN_COU
 {
     match depth {
         Ok(figures) => [0, figures.sailing.0 as u64, figures.cut.0 as u64],
-        Err(fault) => [depth::depth_fault_number(fault) as u64, 0, 0],
+        Err(fault) => [fault.number() as u64, 0, 0],
     }
 }

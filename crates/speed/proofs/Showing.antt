@@ -22,7 +22,7 @@ module _ (divisor : ℕ) (speed : Option ℕ) where
   unfolding over
   over_some some = rw (ne_eqb divisor 0 some)
 
-pub over_missing : (divisor : ℕ) → ◌≡◌ {A = Option ℕ} None (over divisor None)
+pub over_missing : (divisor : ℕ) → None ≡ over divisor None
 unfolding over
 over_missing divisor = go (eqb divisor 0)
   where

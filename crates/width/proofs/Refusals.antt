@@ -15,7 +15,6 @@ use Rattle.datum.specs.declared.CrossCurrent.{CrossCurrent}
 use Rattle.lanes.specs.declared.Lanes.{Lanes}
 use Rattle.width.specs.Bands.{water_of, speed_band_of, cross_entry, wave_entry, entries_by, entries_of}
 use Rattle.width.specs.Bends.{least_lengths, bend_of, widening_figure}
-use Rattle.width.specs.declared.WidthFault.TheVariants.{NoWidthEntry as EntryFault}
 use Rattle.width.specs.Refusals.{bend_number, entries_number, TightBend, NoWidthEntry, bend_rows, entries_rows}
 use Rattle.width.specs.declared.Water.{Water}
 use Rattle.width.specs.declared.Water.TheVariants.{Open, Sheltered}

@@ -5,12 +5,10 @@ use Rattle.depth.proofs.fill_worksheet.Goals as goal
 
 pub returns-then-not-moves_on : goal.returns-then-not-moves_on
 returns-then-not-moves_on c =
-    rw c.blank_try-blank.ensures
     (filled_one c.args.stretch _ c.try_column-first.ensures (sym c.moves_on.ensures ∙ c.if-not-moves_on.true))
 
 pub returns-then-not-moves_on-2 : goal.returns-then-not-moves_on-2
 returns-then-not-moves_on-2 c =
-    rw c.blank_try-blank.ensures
     (filled_two c.args.stretch _ c.try_column-first.ensures
     (sym c.moves_on.ensures ∙ c.if-not-moves_on.false) _
     c.try_column-second.ensures (sym c.moves_on-2.ensures ∙ c.if-not-moves_on-2.true))

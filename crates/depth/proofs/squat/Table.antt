@@ -28,6 +28,14 @@ module _ (c l v : ℕ) where
   unfolding squat_entry
   too_fast h = let k : 2 ≤ v = omega arith in simp (le-ltb _ _ k, lt-ltb _ _ h)
 
+  pub outside : (2 ≤ v → v ≤ 12 → ⊥) → none ≡ squat_entry c l v
+  outside h = go (ltb v 2) (ltb 12 v) refl refl
+    where
+      go : (a b : Bool) → ltb v 2 ≡ a → ltb 12 v ≡ b → none ≡ squat_entry c l v
+      go true b e f = too_slow (ltb-true _ _ e)
+      go false true e f = too_fast (ltb-true _ _ f)
+      go false false e f = absurd (h (ltb-false _ _ e) (ltb-false _ _ f))
+
   pub in_table : 2 ≤ v → v ≤ 12 → get_or (get_or squat_table (2 * c + l) []) (v - 2) 0 ≡ squat_entry c l v
   unfolding squat_entry
   in_table h k = simp (le-ltb _ _ h, le-ltb _ _ k)

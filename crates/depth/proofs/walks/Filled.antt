@@ -3,7 +3,7 @@ use Rattle.std.specs.Prelude.{Ok}
 use mathlib.Core.Path.{◌≡◌, refl, sym, ap, ap₂, ◌∙◌}
 use mathlib.Core.Bool.{true, false}
 use mathlib.Core.List.{List, [], ◌∷◌, ◌++◌}
-use Prim.Native.Nat.{◌-◌, ◌≤◌}
+use Prim.Native.Nat.{◌-◌, ◌≤◌, min}
 use native.Mathlib.Omega.{arith}
 use lib.ListN.{length, take, get_or}
 use Rattle.depth.specs.declared.Stretch.{Stretch}
@@ -79,6 +79,10 @@ module _ (q : Stretch) where
     last_is =
         ap (λ (v : Worksheet). get_or v.tries (v.count - 1) blank_try) is
         ∙ last_line (tries q) (tries_count q).0 (tries_count q).1
+
+    -- the line that the count reaches, the third at most
+    pub reached_is : get_or w.tries (min w.count 3 - 1) blank_try ≡ last_try (tries q)
+    reached_is = let count : min w.count 3 ≡ w.count = omega (arith, count_is, tries_count q) in rw count last_is
 
   pub last_line_is : get_or (worksheet_of q).tries ((worksheet_of q).count - 1) blank_try ≡ last_try (tries q)
   last_line_is = last_is (worksheet_of q) refl

@@ -1,8 +1,8 @@
 -- What a try comes to: the ways out of the code's tests, and what each finding says.
 use Rattle.std.specs.Prelude.{Result, Ok, Err}
-use mathlib.Core.Path.{◌≡◌, refl, sym, ap, subst}
+use mathlib.Core.Path.{◌≡◌, refl, subst}
 use mathlib.Core.Bool.{Bool, true, false}
-use Prim.Native.Nat.{ℕ, ◌≤◌, ◌<◌}
+use Prim.Native.Nat.{◌≤◌, ◌<◌}
 use native.Mathlib.Omega.{arith}
 use borrow.Author.Tests.{leb-true, leb-false, ltb-true, ltb-false, eqb-true, eqb-false, le-leb, lt-leb, lt-ltb, le-ltb, eq-eqb, ne_eqb}
 use lib.Dec.{leb, ltb, eqb}
@@ -13,7 +13,7 @@ use Rattle.depth.specs.declared.DepthFault.TheVariants.{NoSquatEntry, SiltOver, 
 use Rattle.depth.specs.declared.Finding.TheVariants.{Stays, Moves}
 use Rattle.depth.specs.Squat.{none, column_number}
 use Rattle.depth.specs.Depth.{depth_fault_number}
-use Rattle.depth.specs.Worksheet.{finding_of, is_move, moves_on, answer_by, answer_of}
+use Rattle.depth.specs.Worksheet.{finding_of}
 use Rattle.depth.specs.declared.Finding.{Finding}
 
 module _ (t : Try) where
@@ -87,13 +87,3 @@ finding_says t =
 
 pub stays_within : (t : Try) → finding_of t ≡ (Ok Stays) → Within t
 stays_within t e = (subst (Says t) e (finding_says t)).0
-
--- whether it moves, and what it answers, by its finding
-module _ (t : Try) (f : Result Finding DepthFault) (is : finding_of t ≡ f) where
-  pub moves_by : is_move f ≡ moves_on t
-  unfolding moves_on
-  moves_by = ap is_move (sym is)
-
-  pub answer_by_lem : (columns : ℕ) → answer_by f t columns ≡ answer_of t columns
-  unfolding answer_of
-  answer_by_lem columns = ap (λ (g : Result Finding DepthFault). answer_by g t columns) (sym is)

@@ -1,19 +1,16 @@
 -- `depth::work_depth` meets its contract: the count is 1 to 3, and the line there is the last try.
 use mathlib.Core.Path.{◌≡◌, ap₂, ◌∙◌}
-use native.Mathlib.Omega.{arith}
 use Rattle.depth.specs.Worksheet.{last_try, tries, answer_of, work_depth}
-use Rattle.depth.proofs.walks.Tries.{tries_count, last_sails}
-use Rattle.depth.proofs.walks.Filled.{count_is, last_is}
+use Rattle.depth.proofs.walks.Tries.{last_sails}
+use Rattle.depth.proofs.walks.Filled.{count_is, reached_is}
 use Rattle.depth.proofs.work_depth.Goals as goal
 
 -- the line that was taken is the last try
-taken_is : (c : goal.After-last_line-last) → c.last_line-last.result ≡ last_try (tries c.args.stretch)
-taken_is c = c.last_line-last.ensures ∙ last_is c.args.stretch _ c.fill_worksheet-worksheet.ensures
-
-pub last_line-last-requires : goal.last_line-last-requires
-last_line-last-requires c =
+taken_is : (c : goal.After-last) → c.last.result ≡ last_try (tries c.args.stretch)
+taken_is c =
     let q = c.args.stretch in
-    omega (arith, count_is q _ c.fill_worksheet-worksheet.ensures, tries_count q)
+    let w = c.fill_worksheet-worksheet in
+    c.last.ensures ∙ reached_is q _ w.ensures
 
 pub answer_of-requires : goal.answer_of-requires
 answer_of-requires c = rw (taken_is c) (last_sails c.args.stretch)

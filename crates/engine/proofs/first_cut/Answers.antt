@@ -7,18 +7,15 @@ use Rattle.engine.proofs.first_cut.Goals as goal
 
 pub loop-d-init : goal.loop-d-init
 unfolding first_cut
-loop-d-init c = (omega arith, refl)
+loop-d-init c = refl
 
 pub returns-then-meets_it : goal.returns-then-meets_it
 returns-then-meets_it c =
-    let l = c.before.before.before in
-    depth_here (meets _) l.loop-d.d 3001 (omega arith) (sym c.meets_it.ensures ∙ c.if-meets_it.true)
-    ∙ l.loop-d.invariant.1
+    depth_here (meets _) c.loop-d.d 3001 (omega arith) (sym c.meets_it.ensures ∙ c.if-meets_it.true) ∙ c.loop-d.invariant
 
 pub loop-d-preserved : goal.loop-d-preserved
 loop-d-preserved c =
-    let l = c.before.before.before in
-    (omega arith, sym (depth_on (meets _) l.loop-d.d 3001 (omega arith) (sym c.meets_it.ensures ∙ c.if-meets_it.false)) ∙ l.loop-d.invariant.1)
+    sym (depth_on (meets _) c.loop-d.d 3001 (omega arith) (sym c.meets_it.ensures ∙ c.if-meets_it.false)) ∙ c.loop-d.invariant
 
 pub returns : goal.returns
-returns c = depth_end (meets _) c.loop-d.d 3001 (omega arith) ∙ c.loop-d.invariant.1
+returns c = depth_end (meets _) c.loop-d.d 3001 (omega arith) ∙ c.loop-d.invariant

@@ -4,4 +4,4 @@ use Rattle.engine.proofs.meets_it.Goals as goal
 
 pub returns : goal.returns
 unfolding meets
-returns c = rw c.column_at-column.ensures at c.serves_cut.ensures
+returns c = rw (c.of_cut.ensures.0, c.of_cut.ensures.1) at c.serves.ensures

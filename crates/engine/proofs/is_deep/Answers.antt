@@ -1,7 +1,0 @@
--- `engine::is_deep` meets its contract: the two parts are the definition's.
-use Rattle.engine.specs.Plain.{deep}
-use Rattle.engine.proofs.is_deep.Goals as goal
-
-pub returns : goal.returns
-unfolding deep
-returns c = rw (← c.sailing_in-s.ensures.0, ← c.silt_at-silt.ensures.0)

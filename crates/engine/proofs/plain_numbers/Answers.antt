@@ -1,8 +1,0 @@
--- `engine::plain_numbers` meets its contract: an arm for each way.
-use Rattle.engine.proofs.plain_numbers.Goals as goal
-
-pub returns-in-Ok : goal.returns-in-Ok
-returns-in-Ok c = rw c.in-Ok.is
-
-pub returns-in-Err : goal.returns-in-Err
-returns-in-Err c = rw (c.in-Err.is, c.depth_fault_number.ensures)
