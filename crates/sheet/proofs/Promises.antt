@@ -15,7 +15,7 @@ use Rattle.sheet.specs.Refusals.{read_rows, written_rows, read_fault_number, rea
 use Rattle.sheet.specs.CaseS.{sheet_s, bytes_s}
 use Rattle.sheet.specs.declared.Range.{Range}
 use Rattle.sheet.specs.declared.Sheet.{Sheet}
-use Rattle.sheet.specs.declared.Standing.{Standing}
+use Rattle.sheet.specs.declared.FieldFault.{FieldFault}
 use Rattle.sheet.specs.declared.ReadFault.{ReadFault}
 use Rattle.sheet.specs.declared.WriteFault.{WriteFault}
 use Rattle.sheet.proofs.bits.Packed.{packed}
@@ -145,7 +145,7 @@ sheet_unique figures = one_answer
 pub range_unique : (k : ℕ) (r t : Range) → r ≡ range_of k → t ≡ range_of k → r ≡ t
 range_unique k = one_answer
 
-pub standing_unique : (figures : List ℕ) (k : ℕ) (r t : Standing) → r ≡ standing_of figures k → t ≡ standing_of figures k → r ≡ t
+pub standing_unique : (figures : List ℕ) (k : ℕ) (r t : Result (Unit {0}) FieldFault) → r ≡ standing_of figures k → t ≡ standing_of figures k → r ≡ t
 standing_unique figures k = one_answer
 
 pub write_unique : (s : Sheet) (place : List ℕ) (r t : Result (Unit {0}) WriteFault) → r ≡ written_of s place → t ≡ written_of s place → r ≡ t

@@ -1,17 +1,17 @@
 -- The table of fields, and when a field is bad (sections 1.1 and 1.2).
-use Rattle.std.specs.Prelude.{◌≡◌, Bool, false, ◌||◌, ◌&&◌, not, List, [], ◌∷◌, ◌≢◌, ℕ, suc, ◌-◌, ◌<◌, get_or}
+use Rattle.std.specs.Prelude.{◌≡◌, Bool, false, ◌||◌, ◌&&◌, not, List, [], ◌∷◌, ◌≢◌, ℕ, zero, suc, ◌-◌, ◌<◌, get_or, Option, Some, None, Result, Ok, Err}
 use Rattle.std.specs.Bool.{beq}
 use Rattle.laws.specs.Choice.{ifᵇ◌then◌else◌, ◌≤ᵇ◌, ◌<ᵇ◌, ◌=ᵇ◌}
 use Rattle.laws.specs.First.{first_from, first_of}
 use Rattle.sheet.specs.declared.Range.{Range}
-use Rattle.sheet.specs.declared.Standing.{Standing}
-use Rattle.sheet.specs.declared.Standing.TheVariants.{Fine, Outside, Disagrees}
+use Rattle.sheet.specs.declared.FieldFault.{FieldFault}
+use Rattle.sheet.specs.declared.FieldFault.TheVariants.{Outside, Disagrees}
 use Rattle.sheet.specs.declared.fields.Field.{Field}
 
 -- a field's bits, its least and its greatest value
 infix 80 ◌bits◌upto◌
 abbrev pub ◌bits◌upto◌ : ℕ → ℕ → ℕ → Field
-wide bits least upto greatest = record { 0 = wide; 1 = least; 2 = greatest }
+wide bits least upto greatest = record { bits = wide; least = least; greatest = greatest }
 
 -- the fields in the order of their numbers
 unfoldable pub fields : List Field
@@ -64,13 +64,13 @@ field_at k = get_or fields k (0 bits 0 upto 0)
 
 -- the bits of the group after the first k
 unfoldable pub width : ℕ → ℕ
-width k = ifᵇ k <ᵇ count then (field_at k).0 else spare_bits
+width k = ifᵇ k <ᵇ count then (field_at k).bits else spare_bits
 
 unfoldable pub least : ℕ → ℕ
-least k = (field_at k).1
+least k = (field_at k).least
 
 unfoldable pub greatest : ℕ → ℕ
-greatest k = (field_at k).2
+greatest k = (field_at k).greatest
 
 -- what stands after the first k
 abbrev pub nth : List ℕ → ℕ → ℕ
@@ -104,9 +104,11 @@ unfoldable pub range_of : ℕ → Range
 range_of k = record { least = least k; greatest = greatest k }
 
 -- how the figure after the first k stands; past the fields nothing is wrong
-unfoldable pub standing_of : List ℕ → ℕ → Standing
+unfoldable pub standing_of : List ℕ → ℕ → Result (Unit {0}) FieldFault
 standing_of figures k =
-    ifᵇ count ≤ᵇ k then Fine else (ifᵇ outside_at figures k then Outside else (ifᵇ pair_bad figures k then Disagrees else Fine))
+    ifᵇ count ≤ᵇ k
+    then Ok tt
+    else (ifᵇ outside_at figures k then Err Outside else (ifᵇ pair_bad figures k then Err Disagrees else Ok tt))
 
 -- the number of the first bad field past the first from, 0 where there is none
 unfoldable pub first_bad_from : List ℕ → ℕ → ℕ
@@ -115,6 +117,11 @@ first_bad_from figures from = first_from (bad_at figures) from (count - from)
 -- the number of the first bad field, 0 where there is none
 unfoldable pub first_bad : List ℕ → ℕ
 first_bad figures = first_of (bad_at figures) count
+
+-- such a number as the code has it: no number where there is no bad field
+abbrev pub named : ℕ → Option ℕ
+named zero = None
+named (suc k) = Some (suc k)
 
 -- field number k of the figures is bad, as the definition says it
 pub data Bad (figures : List ℕ) : ℕ → Type 0 where

@@ -1,5 +1,6 @@
 -- The rows of section 8 that reading and writing check, and the number and the field of each fault.
-use Rattle.std.specs.Prelude.{List, [], ◌∷◌, ◌≢◌, ℕ, ◌<◌, length, Result, Ok, Err}
+use Rattle.std.specs.Prelude.{List, [], ◌∷◌, ◌≢◌, ℕ, ◌<◌, ◌≤◌, length, Result, Ok, Err}
+use Rattle.std.proofs.Common.{lit≤}
 use Rattle.laws.specs.Rows.{Row, ◌when◌}
 use Rattle.sheet.specs.Fields.{Bad}
 use Rattle.sheet.specs.Packing.{size, groups_of, SpareSet}
@@ -36,6 +37,12 @@ read_fault_number WrongLength = 1
 read_fault_number SpareBitSet = 2
 read_fault_number (BadField field) = 3
 
+-- 0 is no refusal's number
+pub read_fault_some : (fault : ReadFault) → 1 ≤ read_fault_number fault
+read_fault_some WrongLength = lit≤ tt
+read_fault_some SpareBitSet = lit≤ tt
+read_fault_some (BadField field) = lit≤ tt
+
 abbrev pub read_fault_field : ReadFault → ℕ
 read_fault_field WrongLength = 0
 read_fault_field SpareBitSet = 0
@@ -54,6 +61,10 @@ read_field (Err fault) = read_fault_field fault
 abbrev pub write_fault_number : WriteFault → ℕ
 write_fault_number PlaceTooSmall = 12
 write_fault_number (BadFieldToWrite field) = 3
+
+pub write_fault_some : (fault : WriteFault) → 1 ≤ write_fault_number fault
+write_fault_some PlaceTooSmall = lit≤ tt
+write_fault_some (BadFieldToWrite field) = lit≤ tt
 
 abbrev pub write_fault_field : WriteFault → ℕ
 write_fault_field PlaceTooSmall = 0

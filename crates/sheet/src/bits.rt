@@ -105,18 +105,15 @@ fn split_on(
     ensures { SplitTo bytes.now figures.new result to }
 {
     let mut between = start;
-    let mut i = from;
-    while i < to {
+    for i in from..to {
         let width = fields::width_of(i);
         let full = filled(bytes, between, width);
         let held = full.held;
         figures[i] = held.first(width) as u32;
-        let rest = held.rest(width);
         between = Between {
-            held: rest,
+            held: held.rest(width),
             words: full.words,
         };
-        i += 1;
     }
     between
 }
@@ -164,8 +161,7 @@ pub fn join(figures: [u32; COUNT], place: &mut [u8])
 {
     let mut held = Held { bits: 0, n: 0 };
     let mut at: usize = 0;
-    let mut i: usize = 0;
-    while i < fields::GROUPS {
+    for i in 0..fields::GROUPS {
         let width = fields::width_of(i);
         held = held.put(group_at(figures, i), width);
         while 8 <= held.n {
@@ -173,6 +169,5 @@ pub fn join(figures: [u32; COUNT], place: &mut [u8])
             held = held.rest(8);
             at += 1;
         }
-        i += 1;
     }
 }

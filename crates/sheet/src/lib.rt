@@ -3,10 +3,11 @@
 
 ghost use Rattle.std.specs.Prelude.{◌≡◌};
 ghost use Rattle.sheet.specs.Fields.{range_of, standing_of};
-ghost use Rattle.sheet.specs.Refusals.{read_fault_number, read_fault_field, write_fault_number, write_fault_field};
+ghost use Rattle.sheet.specs.Refusals.{read_fault_number, read_fault_field, read_fault_some, write_fault_number, write_fault_field, write_fault_some};
 ghost use Rattle.sheet.specs.Sheets.{figures_of, sheet_from, read_of, written_of, place_of};
 
 use datum::{AlongCurrent, BelowChart, CrossCurrent, Level};
+use laws::Refusal;
 
 mod bits;
 mod fields;
@@ -22,7 +23,8 @@ pub enum LevelSource {
     Given(Level),
 }
 
-// The fields of a sheet, in the order of their numbers.
+// The fields of a sheet, in the order of their numbers. Kinds and grades are numbers, as a sheet with any of them can be
+// asked to be written: `write` names the one that its field cannot hold.
 #[derive(Clone, Copy)]
 pub struct Sheet {
     // 1, t
@@ -96,46 +98,50 @@ pub enum WriteFault {
     BadField(u8),
 }
 
-// The number that turns bytes away for a fault.
-pub fn read_fault_number(fault: ReadFault) -> u8
-    ensures { result ≡ read_fault_number fault }
-{
-    match fault {
-        ReadFault::WrongLength => 1,
-        ReadFault::SpareBitSet => 2,
-        ReadFault::BadField(_) => 3,
+impl Refusal for ReadFault {
+    ghost number_is = { read_fault_number };
+
+    ghost field_is = { read_fault_field };
+
+    fn number(self) -> u8 {
+        match self {
+            ReadFault::WrongLength => 1,
+            ReadFault::SpareBitSet => 2,
+            ReadFault::BadField(_) => 3,
+        }
     }
+
+    fn field(self) -> u8 {
+        match self {
+            ReadFault::WrongLength => 0,
+            ReadFault::SpareBitSet => 0,
+            ReadFault::BadField(field) => field,
+        }
+    }
+
+    ghost some = { read_fault_some };
 }
 
-// The field that a fault names, 0 where it names none.
-pub fn read_fault_field(fault: ReadFault) -> u8
-    ensures { result ≡ read_fault_field fault }
-{
-    match fault {
-        ReadFault::WrongLength => 0,
-        ReadFault::SpareBitSet => 0,
-        ReadFault::BadField(field) => field,
-    }
-}
+impl Refusal for WriteFault {
+    ghost number_is = { write_fault_number };
 
-// The number that turns a writing away for a fault.
-pub fn write_fault_number(fault: WriteFault) -> u8
-    ensures { result ≡ write_fault_number fault }
-{
-    match fault {
-        WriteFault::PlaceTooSmall => 12,
-        WriteFault::BadField(_) => 3,
-    }
-}
+    ghost field_is = { write_fault_field };
 
-// The field that a fault names, 0 where it names none.
-pub fn write_fault_field(fault: WriteFault) -> u8
-    ensures { result ≡ write_fault_field fault }
-{
-    match fault {
-        WriteFault::PlaceTooSmall => 0,
-        WriteFault::BadField(field) => field,
+    fn number(self) -> u8 {
+        match self {
+            WriteFault::PlaceTooSmall => 12,
+            WriteFault::BadField(_) => 3,
+        }
     }
+
+    fn field(self) -> u8 {
+        match self {
+            WriteFault::PlaceTooSmall => 0,
+            WriteFault::BadField(field) => field,
+        }
+    }
+
+    ghost some = { write_fault_some };
 }
 
 // A field's least and greatest value.
@@ -145,10 +151,9 @@ pub struct Range {
     pub greatest: u32,
 }
 
-// How a figure stands in its field: as it should, outside its values, or against another field.
+// How a figure is wrong in its field: outside its values, or against another field.
 #[derive(Clone, Copy)]
-pub enum Standing {
-    Fine,
+pub enum FieldFault {
     Outside,
     Disagrees,
 }
@@ -159,25 +164,25 @@ pub fn range_of(i: usize) -> Range
 {
     let field = fields::field_at(i);
     Range {
-        least: field.1,
-        greatest: field.2,
+        least: field.least,
+        greatest: field.greatest,
     }
 }
 
 // How the figure after the first i stands; past the fields nothing is wrong.
-pub fn standing_of(figures: [u32; COUNT], i: usize) -> Standing
+pub fn standing_of(figures: [u32; COUNT], i: usize) -> Result<(), FieldFault>
     ensures { result ≡ standing_of figures i }
 {
     if COUNT <= i {
-        return Standing::Fine;
+        return Ok(());
     }
     if fields::outside(figures, i) {
-        return Standing::Outside;
+        return Err(FieldFault::Outside);
     }
     if fields::pair_bad(figures, i) {
-        return Standing::Disagrees;
+        return Err(FieldFault::Disagrees);
     }
-    Standing::Fine
+    Ok(())
 }
 
 // The figures of a sheet, in the order of its fields.
@@ -191,8 +196,7 @@ pub fn figures_of(sheet: Sheet) -> [u32; COUNT]
 pub fn sheet_from(figures: [u32; COUNT]) -> Result<Sheet, ReadFault>
     ensures { result ≡ sheet_from figures }
 {
-    let bad = fields::first_bad(figures);
-    if bad != 0 {
+    if let Some(bad) = fields::first_bad(figures) {
         return Err(ReadFault::BadField(bad));
     }
     Ok(figures::sheet_of(figures))
@@ -209,8 +213,7 @@ pub fn read(bytes: &[u8]) -> Result<Sheet, ReadFault>
     if parts.spare != 0 {
         return Err(ReadFault::SpareBitSet);
     }
-    let figures = parts.figures;
-    sheet_from(figures)
+    sheet_from(parts.figures)
 }
 
 // Writes a sheet into the first 28 bytes of a place, or says why not and changes nothing.
@@ -221,8 +224,7 @@ pub fn write(sheet: Sheet, place: &mut [u8]) -> Result<(), WriteFault>
         return Err(WriteFault::PlaceTooSmall);
     }
     let figures = figures_of(sheet);
-    let bad = fields::first_bad(figures);
-    if bad != 0 {
+    if let Some(bad) = fields::first_bad(figures) {
         return Err(WriteFault::BadField(bad));
     }
     bits::join(figures, place);

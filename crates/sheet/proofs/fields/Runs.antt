@@ -1,5 +1,6 @@
 -- The search for the first place where a test holds, by runs of places.
-use mathlib.Core.Path.{◌≡◌, refl}
+use Rattle.std.specs.Prelude.{Option, Some, None}
+use mathlib.Core.Path.{◌≡◌, refl, ap}
 use mathlib.Core.Bool.{Bool, true, false}
 use Prim.Native.Nat.{ℕ, zero, suc, ◌+◌, ◌<◌, ◌≤◌}
 use native.Mathlib.Nat.{add-zero, zero-add, suc-add, add-suc}
@@ -8,6 +9,8 @@ use borrow.Author.Tests.{ne_eqb}
 use lib.Dec.{eqb}
 use Rattle.laws.specs.Choice.{ifᵇ◌then◌else◌}
 use Rattle.laws.specs.First.{first_from}
+use Rattle.laws.proofs.Never.{never}
+use Rattle.sheet.specs.Fields.{named}
 
 module _ (test : ℕ → Bool) where
   -- a run of n places and m more: the first is that of the run, or past it where it has none
@@ -21,6 +24,23 @@ module _ (test : ℕ → Bool) where
           → first_from test i (suc n + m) ≡ (ifᵇ eqb (first_from test i (suc n)) 0 then first_from test (i + suc n) m else first_from test i (suc n))
       go true t on = rw (suc-add, t, ne_eqb (suc i) 0 (λ e. omega arith))
       go false t on = rw (suc-add, t, on, suc-add, add-suc)
+
+-- a search that ends at a place names the number behind it, and one that ends nowhere names none
+pub found_named : (i r : ℕ) → i + 1 ≡ r → Some (i + 1) ≡ named r
+found_named i zero e = absurd (omega arith)
+found_named i (suc r) e = ap Some e
+
+pub none_named : (r : ℕ) → 0 ≡ r → None ≡ named r
+none_named r e = ap named e
+
+-- what is named is that number, and where none is named it is 0
+pub named_some : (o : Option ℕ) (k r : ℕ) → o ≡ named r → o ≡ Some k → (k ≡ r) × (k ≡ 0 → ⊥)
+named_some o k zero e is = never cc
+named_some o k (suc r) e is = (cc, λ z. never cc)
+
+pub named_none : (o : Option ℕ) (r : ℕ) → o ≡ named r → o ≡ None → r ≡ 0
+named_none o zero e is = refl
+named_none o (suc r) e is = never cc
 
 -- two tests that agree below a place find the same before it
 pub same_run : (test other : ℕ → Bool) (end : ℕ) → ((k : ℕ) → k < end → test k ≡ other k) → (i n : ℕ) → i + n ≤ end

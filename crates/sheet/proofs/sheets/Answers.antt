@@ -1,17 +1,18 @@
 -- What reading and writing answer, case by case.
-use Rattle.std.specs.Prelude.{Ok, Err}
+use Rattle.std.specs.Prelude.{Option, Some, None, Ok, Err}
 use mathlib.Core.Path.{◌≡◌, refl}
 use mathlib.Core.List.{List, ◌++◌}
 use Prim.Native.Nat.{ℕ, ◌<◌, ◌≤◌}
 use borrow.Author.Tests.{eq-eqb, ne_eqb, le-ltb, lt-ltb}
 use lib.ListN.{length, take, drop}
 use lib.Seq.{get_or-take}
-use Rattle.sheet.specs.Fields.{count, nth, first_bad}
+use Rattle.sheet.specs.Fields.{count, nth, first_bad, named}
 use Rattle.sheet.specs.Packing.{size, groups_of, figures_in, bytes_of}
 use Rattle.sheet.specs.Sheets.{figures_of, sheet_from, read_groups, read_of, written_of, place_of}
 use Rattle.sheet.specs.declared.Sheet.{Sheet}
 use Rattle.sheet.specs.declared.ReadFault.TheVariants.{WrongLength, SpareBitSet}
 use Rattle.sheet.specs.declared.WriteFault.TheVariants.{PlaceTooSmall, BadField as BadFieldToWrite}
+use Rattle.sheet.proofs.fields.Runs.{named_some, named_none}
 use Rattle.sheet.proofs.figures.SameFields.{sheet_from_same}
 
 module _ (b : List ℕ) where
@@ -38,12 +39,14 @@ module _ (s : Sheet) (place : List ℕ) where
   unfolding written_of place_of
   write_small l = rw (lt-ltb (length place) size l) (refl, refl)
 
-  module _ (v : List ℕ) (k : ℕ) (l : size ≤ length place) (e : v ≡ figures_of s) (f : k ≡ first_bad v) where
-    pub write_bad : (k ≡ 0 → ⊥) → (Err (BadFieldToWrite k) ≡ written_of s place) × (place ≡ place_of s place)
+  module _ (v : List ℕ) (l : size ≤ length place) (e : v ≡ figures_of s) (bad : Option ℕ) (f : bad ≡ named (first_bad v)) where
+    pub write_bad : (k : ℕ) → bad ≡ Some k → (Err (BadFieldToWrite k) ≡ written_of s place) × (place ≡ place_of s place)
     unfolding written_of place_of
-    write_bad h = rw (le-ltb (length place) size l, ← e, ← f, ne_eqb k 0 h) (refl, refl)
+    write_bad k some =
+        let n = named_some bad k _ f some in
+        rw (le-ltb (length place) size l, ← e, ← n.0, ne_eqb k 0 n.1) (refl, refl)
 
-    pub write_done : (o : List ℕ) → k ≡ 0 → o ≡ bytes_of v ++ drop size place
+    pub write_done : (o : List ℕ) → bad ≡ None → o ≡ bytes_of v ++ drop size place
         → ((Ok tt) ≡ written_of s place) × (o ≡ place_of s place)
     unfolding written_of place_of
-    write_done o h g = rw (le-ltb (length place) size l, ← e, ← f, eq-eqb k 0 h) (refl, g)
+    write_done o none g = rw (le-ltb (length place) size l, ← e, eq-eqb (first_bad v) 0 (named_none bad _ f none)) (refl, g)

@@ -1,6 +1,6 @@
 -- What figures make: a sheet whose figures they are, or the first bad field.
-use Rattle.std.specs.Prelude.{Result, Ok, Err}
-use mathlib.Core.Path.{◌≡◌, refl, sym, ◌∙◌}
+use Rattle.std.specs.Prelude.{Option, Some, None, Result, Ok, Err}
+use mathlib.Core.Path.{◌≡◌, refl, ap, sym, ◌∙◌}
 use mathlib.Core.Bool.{Bool, true, false}
 use mathlib.Core.List.{List}
 use mathlib.Core.Logic.{◌↔◌}
@@ -12,7 +12,7 @@ use lib.ListN.{length}
 use Rattle.laws.proofs.Never.{never}
 use Rattle.laws.specs.Choice.{ifᵇ◌then◌else◌}
 use Rattle.laws.specs.Extremes.{Least}
-use Rattle.sheet.specs.Fields.{count, fields, field_at, nth, greatest, pair_bad, first_bad, Bad}
+use Rattle.sheet.specs.Fields.{count, fields, field_at, nth, greatest, pair_bad, first_bad, named, Bad}
 use Rattle.sheet.specs.Packing.{listed}
 use Rattle.sheet.specs.Refusals.{read_number, read_field}
 use Rattle.sheet.specs.Sheets.{sheet_of, bed_figure, figures_of, sheet_from, Valid}
@@ -20,20 +20,21 @@ use Rattle.sheet.specs.declared.Sheet.{Sheet}
 use Rattle.sheet.specs.declared.ReadFault.TheVariants.{BadField}
 use Rattle.sheet.proofs.bits.Regroup.{listed_is}
 use Rattle.sheet.proofs.fields.BadFields.{first_least, none_bad}
+use Rattle.sheet.proofs.fields.Runs.{named_some, named_none}
 use Rattle.sheet.proofs.figures.Beds.{bed_back}
 use Rattle.sheet.proofs.figures.Levels.{level_back, figures_back}
 use Rattle.sheet.proofs.figures.SameFields.{only_fields, only_fields_at, first_bad_same}
 use Rattle.sheet.proofs.sheets.Valid.{fine}
 use Rattle.sheet.specs.declared.ReadFault.{ReadFault}
 
-module _ (v : List ℕ) (k : ℕ) (f : k ≡ first_bad v) where
-  pub from_bad : (k ≡ 0 → ⊥) → Err (BadField k) ≡ sheet_from v
+module _ (v : List ℕ) (bad : Option ℕ) (f : bad ≡ named (first_bad v)) where
+  pub from_bad : (k : ℕ) → bad ≡ Some k → Err (BadField k) ≡ sheet_from v
   unfolding sheet_from
-  from_bad h = rw (← f, ne_eqb k 0 h)
+  from_bad k some = let n = named_some bad k _ f some in rw (← n.0, ne_eqb k 0 n.1)
 
-  pub from_good : (s : Sheet) → k ≡ 0 → s ≡ sheet_of v → Ok s ≡ sheet_from v
+  pub from_good : (s : Sheet) → bad ≡ None → s ≡ sheet_of v → Ok s ≡ sheet_from v
   unfolding sheet_from
-  from_good s h g = rw (← f, eq-eqb k 0 h, g)
+  from_good s none g = rw (eq-eqb (first_bad v) 0 (named_none bad _ f none), g)
 
 pub sheet_of_figures : (s : Sheet) → Valid s → sheet_of (figures_of s) ≡ s
 unfolding Valid sheet_of figures_of greatest field_at fields
@@ -57,7 +58,7 @@ valid_sheet v e = rw (figures_of_sheet v e) (first_bad_same (only_fields v) v (o
 -- a valid sheet is that of its figures
 pub from_figures : (s : Sheet) → Valid s → sheet_from (figures_of s) ≡ Ok s
 unfolding Valid
-from_figures s e = sym (from_good (figures_of s) 0 (sym e) s refl (sym (sheet_of_figures s e)))
+from_figures s e = sym (from_good (figures_of s) None (ap named (sym e)) s refl (sym (sheet_of_figures s e)))
 
 -- the two ways of making: what is so of each is so of its answer
 module _ (v : List ℕ) (P : Result Sheet ReadFault → Type 0) where

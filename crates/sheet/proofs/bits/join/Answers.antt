@@ -57,10 +57,9 @@ pub loop-i-preserved : goal.loop-i-preserved
 loop-i-preserved c = (
   c.loop-held.invariant.0,
   omega arith,
-  omega arith,
   record {
-    same = c.loop-held.invariant.2.same ∙ c.loop-i.invariant.3.same;
-    tail = c.loop-held.invariant.2.tail ∙ c.loop-i.invariant.3.tail;
+    same = c.loop-held.invariant.2.same ∙ c.loop-i.invariant.2.same;
+    tail = c.loop-held.invariant.2.tail ∙ c.loop-i.invariant.2.tail;
   },
 )
 
@@ -74,15 +73,15 @@ returns c =
     let m : Mid width (nth v) eight (nth place) groups o.at o.held.bits o.held.n = rw e at o.invariant.0 in
     let a : o.at ≡ 28 = omega (arith, starts_eight o.at, starts_width, m.place) in
     let m' : Mid width (nth v) eight (nth place) groups 28 o.held.bits o.held.n = rw a at m in
-    let l : 28 ≤ length place = omega (arith, c.requires.in_bounds, o.invariant.3.same) in
+    let l : 28 ≤ length place = omega (arith, c.requires.in_bounds, o.invariant.2.same) in
     let t : take 28 place ≡ listed (cut eight 28 (joined width (nth v) groups)) 0 28 =
     listed_is _ 28 (take 28 place) (length-take-le 28 place l)
     (λ k h. get_or-take 28 place k 0 h
     ∙ mid_done width (nth v) eight (nth place) groups 28 o.held.bits o.held.n m' (starts_width ∙ sym (starts_eight 28)) k h) in
-    rw (← t, ← o.invariant.3.tail) (sym (take-append-drop 28 place))
+    rw (← t, ← o.invariant.2.tail) (sym (take-append-drop 28 place))
 
 pub loop-i-init : goal.loop-i-init
-loop-i-init c = (mid_start _ _ _ _, omega arith, omega arith, record { same = refl; tail = refl })
+loop-i-init c = (mid_start _ _ _ _, omega arith, record { same = refl; tail = refl })
 
 pub bounds-place-at : goal.bounds-place-at
 bounds-place-at c = let h = in_sheet (goal.at.bounds-place-at c).In-loop-held in omega arith

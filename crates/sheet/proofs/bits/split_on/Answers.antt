@@ -22,16 +22,16 @@ full c =
     let l = c.loop-i in
     full_is _ _ l.figures l.between c.filled-full.result l.i c.width_of-width.result
     (omega (arith, width_le l.i (omega (arith, c.requires.from_le_to.1, c.loop-i-test.true))))
-    l.invariant.0 c.filled-full.ensures
+    l.invariant c.filled-full.ensures
 
 pub filled-full-requires : goal.filled-full-requires
 filled-full-requires c =
     record {
       bytes_len = c.requires.bytes_len;
-      bits_bound = c.loop-i.invariant.0.mid.tail.low;
+      bits_bound = c.loop-i.invariant.mid.tail.low;
       n_bound =
           word_left c.args.bytes.now (λ k. (c.shared_slice_known-1.given k).fits) c.loop-i.figures c.loop-i.between c.loop-i.i
-          c.width_of-width.result c.loop-i.invariant.0 (omega (arith, c.requires.from_le_to.1, c.loop-i-test.true)) c.width_of-width.ensures;
+          c.width_of-width.result c.loop-i.invariant (omega (arith, c.requires.from_le_to.1, c.loop-i-test.true)) c.width_of-width.ensures;
     }
 
 pub overflow_cast-figures : goal.overflow_cast-figures
@@ -41,18 +41,16 @@ overflow_cast-figures c =
     record { fits = omega (arith, first_fits held.bits held.n _ c.first.result f.mid.tail.low f.enough f.narrow c.first.ensures) }
 
 pub loop-i-preserved : goal.loop-i-preserved
-loop-i-preserved c = (
-  split_one _ _ c.loop-i.figures c.filled-full.result c.loop-i.i c.width_of-width.result c.first.result c.rest-rest.result
-      (full (goal.at.loop-i-preserved c).After-held-1) c.width_of-width.ensures (in_table (goal.at.loop-i-preserved c).In-loop-i)
-      c.first.ensures c.rest-rest.ensures.0 c.rest-rest.ensures.1,
-  omega arith,
-)
+loop-i-preserved c =
+    split_one _ _ c.loop-i.figures c.filled-full.result c.loop-i.i c.width_of-width.result c.first.result c.rest.result
+    (full (goal.at.loop-i-preserved c).After-held-1) c.width_of-width.ensures (in_table (goal.at.loop-i-preserved c).In-loop-i)
+    c.first.ensures c.rest.ensures.0 c.rest.ensures.1
 
 pub returns : goal.returns
-returns c = let e : c.loop-i.i ≡ c.args.to = omega arith in rw e at c.loop-i.invariant.0
+returns c = let e : c.loop-i.i ≡ c.args.to = omega arith in rw e at c.loop-i.invariant
 
 pub loop-i-init : goal.loop-i-init
-loop-i-init c = (c.requires.split_to, c.requires.from_le_to.0)
+loop-i-init c = c.requires.split_to
 
 pub width_of-width-requires : goal.width_of-width-requires
 width_of-width-requires c = let h = in_table c in omega arith
@@ -63,5 +61,5 @@ first-requires c = let f = full c in (f.enough, omega (arith, f.few, f.narrow))
 pub bounds-figures-i : goal.bounds-figures-i
 bounds-figures-i c = in_table (goal.at.bounds-figures-i c).In-loop-i
 
-pub rest-rest-requires : goal.rest-rest-requires
-rest-rest-requires c = let f = full (goal.at.rest-rest-requires c).After-held-1 in (f.enough, omega (arith, f.few, f.narrow))
+pub rest-requires : goal.rest-requires
+rest-requires c = let f = full (goal.at.rest-requires c).After-held-1 in (f.enough, omega (arith, f.few, f.narrow))

@@ -1,10 +1,6 @@
 -- `sheet::bits::split_on` meets its contract: between two steps the number of the bytes read is that of the groups given out, followed by the held bits.
-use Prim.Native.Nat.{◌≤◌, ◌-◌}
 use Rattle.sheet.specs.Regrouping.{SplitTo}
 use Rattle.sheet.proofs.bits.split_on.Given as goal
 
 abbrev pub invariant-loop-i : goal.invariant-loop-i
-invariant-loop-i l = SplitTo l.bytes l.figures l.between l.i × (l.i ≤ l.to)
-
-abbrev pub decreases-loop-i : goal.decreases-loop-i
-decreases-loop-i l = l.to - l.i
+invariant-loop-i l = SplitTo l.bytes l.figures l.between l.i

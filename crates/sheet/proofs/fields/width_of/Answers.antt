@@ -7,7 +7,7 @@ use Rattle.sheet.proofs.fields.width_of.Goals as goal
 
 pub returns-then-i-lt-COUNT : goal.returns-then-i-lt-COUNT
 unfolding width
-returns-then-i-lt-COUNT c = rw (lt-ltb _ count c.if-i-lt-COUNT.true) (ap (λ (f : Field). f.0) c.field_at-field.ensures)
+returns-then-i-lt-COUNT c = rw (lt-ltb _ count c.if-i-lt-COUNT.true) (ap (λ (f : Field). f.bits) c.field_at.ensures)
 
 pub returns-else-i-lt-COUNT : goal.returns-else-i-lt-COUNT
 unfolding width
