@@ -46,23 +46,16 @@ impl Held {
     }
 }
 
-fn byte(bytes: &[u8], at: usize) -> u64
-    requires { at < length bytes.now }
-    ensures { (result ≡ nth bytes.now at) × (result < 256) }
-{
-    bytes[at] as u64
-}
-
 // The 32 bits of word k, four bytes.
+#[tactic(auto, unfolding(crate::specs::Regrouping::word_at))]
 fn word(bytes: &[u8], k: usize) -> u64
     requires bytes_len { length bytes.now ≡ 28 }
     requires k_bound { k < 7 }
-    ensures { result ≡ word_at bytes.now k }
+    ensures value { result ≡ word_at bytes.now k }
+    ensures bound { result < 2 ^ 32 }
 {
     let at = 4 * k;
-    let high = (byte(bytes, at) << 8) + byte(bytes, at + 1);
-    let low = (byte(bytes, at + 2) << 8) + byte(bytes, at + 3);
-    (high << 16) + low
+    u32::from_be_bytes([bytes[at], bytes[at + 1], bytes[at + 2], bytes[at + 3]]) as u64
 }
 
 // Between two groups: the bits held, and how many words are taken in.
@@ -73,6 +66,7 @@ struct Between {
 }
 
 // With one word more where fewer than w bits are held.
+#[tactic(auto, using(std::proofs::lemmas::Bool::Decides::nat_tests), unfolding(crate::specs::Regrouping::filled_of))]
 fn filled(bytes: &[u8], between: Between, w: u32) -> Between
     requires bytes_len { length bytes.now ≡ 28 }
     requires bits_bound { between.held.bits < 2 ^ between.held.n }

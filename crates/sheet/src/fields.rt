@@ -69,6 +69,7 @@ pub fn field_at(i: usize) -> Field
 }
 
 // The bits of a group: a field's, or the spare bits.
+#[tactic(auto, using(std::proofs::lemmas::Bool::Decides::nat_tests), unfolding(crate::specs::Fields::width))]
 pub fn width_of(i: usize) -> u32
     requires { i < groups }
     ensures { result ≡ width i }
@@ -81,6 +82,7 @@ pub fn width_of(i: usize) -> u32
 }
 
 // Whether field i + 1 is bad against another field.
+#[tactic(auto, using(std::proofs::lemmas::Bool::Decides::nat_tests), unfolding(crate::specs::Fields::pair_bad))]
 pub fn pair_bad(figures: [u32; COUNT], i: usize) -> bool
     ensures { result ≡ pair_bad figures i }
 {
@@ -96,6 +98,7 @@ pub fn pair_bad(figures: [u32; COUNT], i: usize) -> bool
 }
 
 // Whether field i + 1 is outside its values.
+#[tactic(auto, using(std::proofs::lemmas::Bool::Decides::nat_tests), unfolding(crate::specs::Fields::outside_at, crate::specs::Fields::least, crate::specs::Fields::greatest))]
 pub fn outside(figures: [u32; COUNT], i: usize) -> bool
     requires { i < count }
     ensures { result ≡ outside_at figures i }
@@ -119,6 +122,7 @@ fn first_outside(figures: [u32; COUNT], from: usize, to: usize) -> Option<u8>
 }
 
 // Whether field i + 1 is bad: outside its values, or against another field.
+
 fn bad_at(figures: [u32; COUNT], i: usize) -> bool
     requires { i < count }
     ensures { result ≡ bad_at figures i }

@@ -159,6 +159,7 @@ pub enum FieldFault {
 }
 
 // The values of the field after the first i; 0 and 0 where there is none.
+#[tactic(auto, unfolding(crate::specs::Fields::range_of, crate::specs::Fields::least, crate::specs::Fields::greatest))]
 pub fn range_of(i: usize) -> Range
     ensures { result ≡ range_of i }
 {
@@ -170,6 +171,7 @@ pub fn range_of(i: usize) -> Range
 }
 
 // How the figure after the first i stands; past the fields nothing is wrong.
+#[tactic(auto, using(std::proofs::lemmas::Bool::Decides::nat_tests), unfolding(crate::specs::Fields::standing_of))]
 pub fn standing_of(figures: [u32; COUNT], i: usize) -> Result<(), FieldFault>
     ensures { result ≡ standing_of figures i }
 {
