@@ -14,6 +14,9 @@ struct Held {
 }
 
 impl Held {
+    // No bit.
+    const NONE: Held = Held { bits: 0, n: 0 };
+
     // With w bits more behind them.
     fn put(self, x: u64, w: u32) -> Held
         requires { (self.bits < 2 ^ self.n) × (x < 2 ^ w) × (self.n + w ≤ 60) }
@@ -65,23 +68,22 @@ struct Between {
     words: usize,
 }
 
-// With one word more where fewer than w bits are held.
-#[tactic(auto, using(std::proofs::lemmas::Bool::Decides::nat_tests), unfolding(crate::specs::Regrouping::filled_of))]
-fn filled(bytes: &[u8], between: Between, w: u32) -> Between
-    requires bytes_len { length bytes.now ≡ 28 }
-    requires bits_bound { between.held.bits < 2 ^ between.held.n }
-    requires n_bound { between.held.n < w → (between.held.n < 28) × (between.words < 7) }
-    ensures { result ≡ filled_of bytes.now between w }
-{
-    let held = between.held;
-    if w <= held.n {
-        return between;
-    }
-    let words = between.words;
-    let more = held.put(word(bytes, words), 32);
-    Between {
-        held: more,
-        words: words + 1,
+impl Between {
+    // With one word more where fewer than w bits are held.
+    #[tactic(auto, using(std::proofs::lemmas::Bool::Decides::nat_tests), unfolding(crate::specs::Regrouping::filled_of))]
+    fn filled(self, bytes: &[u8], w: u32) -> Between
+        requires bytes_len { length bytes.now ≡ 28 }
+        requires bits_bound { self.held.bits < 2 ^ self.held.n }
+        requires n_bound { self.held.n < w → (self.held.n < 28) × (self.words < 7) }
+        ensures { result ≡ filled_of bytes.now self w }
+    {
+        if w <= self.held.n {
+            return self;
+        }
+        Between {
+            held: self.held.put(word(bytes, self.words), 32),
+            words: self.words + 1,
+        }
     }
 }
 
@@ -101,11 +103,10 @@ fn split_on(
     let mut between = start;
     for i in from..to {
         let width = fields::width_of(i);
-        let full = filled(bytes, between, width);
-        let held = full.held;
-        figures[i] = held.first(width) as u32;
+        let full = between.filled(bytes, width);
+        figures[i] = full.held.first(width) as u32;
         between = Between {
-            held: held.rest(width),
+            held: full.held.rest(width),
             words: full.words,
         };
     }
@@ -125,18 +126,16 @@ pub fn split(bytes: &[u8]) -> Parts
     ensures { (result.figures ≡ figures_in bytes.now) × (result.spare ≡ nth (groups_of bytes.now) count) }
 {
     let mut figures = [0u32; COUNT];
-    let none = Held { bits: 0, n: 0 };
     let start = Between {
-        held: none,
+        held: Held::NONE,
         words: 0,
     };
     let of_ten = split_on(bytes, &mut figures, start, 0, 10);
     let of_twenty = split_on(bytes, &mut figures, of_ten, 10, 20);
     let of_all = split_on(bytes, &mut figures, of_twenty, 20, COUNT);
-    let held = of_all.held;
     Parts {
         figures,
-        spare: held.bits as u32,
+        spare: of_all.held.bits as u32,
     }
 }
 
@@ -153,7 +152,7 @@ pub fn join(figures: [u32; COUNT], place: &mut [u8])
     requires in_bounds { 28 ≤ length place.old }
     ensures { place.new ≡ bytes_of figures ++ drop 28 place.old }
 {
-    let mut held = Held { bits: 0, n: 0 };
+    let mut held = Held::NONE;
     let mut at: usize = 0;
     for i in 0..fields::GROUPS {
         let width = fields::width_of(i);

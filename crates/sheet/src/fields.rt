@@ -122,7 +122,7 @@ fn first_outside(figures: [u32; COUNT], from: usize, to: usize) -> Option<u8>
 }
 
 // Whether field i + 1 is bad: outside its values, or against another field.
-
+#[tactic(auto, unfolding(crate::specs::Fields::outside_at, crate::specs::Fields::bad_at))]
 fn bad_at(figures: [u32; COUNT], i: usize) -> bool
     requires { i < count }
     ensures { result ≡ bad_at figures i }

@@ -18,29 +18,7 @@ use Rattle.sheet.specs.declared.bits.Held.{Held}
 use Rattle.sheet.proofs.bits.Regroup.{mid_start, mid_in, mid_out, mid_set, mid_done, listed_is}
 use Rattle.sheet.proofs.bits.Widths.{width_le, starts_eight, starts_width, starts_fields, width_spare, ends_width}
 
-module _ (bytes : List ℕ) (byte : (k : ℕ) → nth bytes k < 256) where
-  pub word_lt : (k : ℕ) → word_at bytes k < 2 ^ 32
-  unfolding word_at
-  word_lt k = omega (arith, byte (4 * k), byte (4 * k + 1), byte (4 * k + 2), byte (4 * k + 3))
-
-  mid_byte : (found : List ℕ) (p q i b n : ℕ) → Mid eight (nth bytes) width (nth found) p i b n → q ≡ p + 1
-      → Mid eight (nth bytes) width (nth found) q i (b * 2 ^ 8 + nth bytes p) (n + 8)
-  mid_byte found p q i b n m e = rw e (mid_in eight (nth bytes) width (nth found) p i b n m (byte p))
-
-  mid_word : (found : List ℕ) (k i b n : ℕ) → Mid eight (nth bytes) width (nth found) (4 * k) i b n
-      → Mid eight (nth bytes) width (nth found) (4 * (k + 1)) i (b * 2 ^ 32 + word_at bytes k) (n + 32)
-  unfolding word_at
-  mid_word found k i b n m =
-      let one = mid_byte found (4 * k) (4 * k + 1) i b n m (omega arith) in
-      let two = mid_byte found (4 * k + 1) (4 * k + 2) i _ _ one (omega arith) in
-      let three = mid_byte found (4 * k + 2) (4 * k + 3) i _ _ two (omega arith) in
-      let four = mid_byte found (4 * k + 3) (4 * (k + 1)) i _ _ three (omega arith) in
-      let eb : b * 2 ^ 32 + (nth bytes (4 * k) * 2 ^ 24 + nth bytes (4 * k + 1) * 2 ^ 16 + nth bytes (4 * k + 2) * 2 ^ 8 + nth bytes (4 * k + 3))
-      ≡ (((b * 2 ^ 8 + nth bytes (4 * k)) * 2 ^ 8 + nth bytes (4 * k + 1)) * 2 ^ 8 + nth bytes (4 * k + 2)) * 2 ^ 8 + nth bytes (4 * k + 3) =
-      omega arith in
-      let en : n + 32 ≡ n + 8 + 8 + 8 + 8 = omega arith in
-      rw (eb, en) four
-
+module _ (bytes : List ℕ) where
   -- at least w bits are held, and the first i groups are given out
   pub record Full (found : List ℕ) (full : Between) (i w : ℕ) : Type 0 where
     pub mid : Mid eight (nth bytes) width (nth found) (4 * full.words) i full.held.bits full.held.n
@@ -49,24 +27,43 @@ module _ (bytes : List ℕ) (byte : (k : ℕ) → nth bytes k < 256) where
     pub few : full.held.n < w + 32
     pub whole : length found ≡ count
 
-  pub full_is : (found : List ℕ) (between full : Between) (i w : ℕ) → w ≤ 20 → SplitTo bytes found between i
-      → full ≡ filled_of bytes between w → Full found full i w
-  unfolding filled_of
-  full_is found between full i w small s e = go (ltb between.held.n w) refl
-    where
-      go : (b : Bool) → ltb between.held.n w ≡ b → Full found full i w
-      go true t =
-          rw (e, t)
-          record {
-            mid = mid_word found between.words i _ _ s.mid;
-            enough = omega arith;
-            narrow = small;
-            few = omega (arith, ltb-true between.held.n w t);
-            whole = s.whole;
-          }
-      go false t =
-          rw (e, t)
-          record { mid = s.mid; enough = ltb-false between.held.n w t; narrow = small; few = omega (arith, s.few); whole = s.whole }
+  module _ (byte : (k : ℕ) → nth bytes k < 256) where
+    mid_byte : (found : List ℕ) (p q i b n : ℕ) → Mid eight (nth bytes) width (nth found) p i b n → q ≡ p + 1
+        → Mid eight (nth bytes) width (nth found) q i (b * 2 ^ 8 + nth bytes p) (n + 8)
+    mid_byte found p q i b n m e = rw e (mid_in eight (nth bytes) width (nth found) p i b n m (byte p))
+
+    mid_word : (found : List ℕ) (k i b n : ℕ) → Mid eight (nth bytes) width (nth found) (4 * k) i b n
+        → Mid eight (nth bytes) width (nth found) (4 * (k + 1)) i (b * 2 ^ 32 + word_at bytes k) (n + 32)
+    unfolding word_at
+    mid_word found k i b n m =
+        let one = mid_byte found (4 * k) (4 * k + 1) i b n m (omega arith) in
+        let two = mid_byte found (4 * k + 1) (4 * k + 2) i _ _ one (omega arith) in
+        let three = mid_byte found (4 * k + 2) (4 * k + 3) i _ _ two (omega arith) in
+        let four = mid_byte found (4 * k + 3) (4 * (k + 1)) i _ _ three (omega arith) in
+        let eb : b * 2 ^ 32 + (nth bytes (4 * k) * 2 ^ 24 + nth bytes (4 * k + 1) * 2 ^ 16 + nth bytes (4 * k + 2) * 2 ^ 8 + nth bytes (4 * k + 3))
+        ≡ (((b * 2 ^ 8 + nth bytes (4 * k)) * 2 ^ 8 + nth bytes (4 * k + 1)) * 2 ^ 8 + nth bytes (4 * k + 2)) * 2 ^ 8 + nth bytes (4 * k + 3) =
+        omega arith in
+        let en : n + 32 ≡ n + 8 + 8 + 8 + 8 = omega arith in
+        rw (eb, en) four
+
+    pub full_is : (found : List ℕ) (between full : Between) (i w : ℕ) → w ≤ 20 → SplitTo bytes found between i
+        → full ≡ filled_of bytes between w → Full found full i w
+    unfolding filled_of
+    full_is found between full i w small s e = go (ltb between.held.n w) refl
+      where
+        go : (b : Bool) → ltb between.held.n w ≡ b → Full found full i w
+        go true t =
+            rw (e, t)
+            record {
+              mid = mid_word found between.words i _ _ s.mid;
+              enough = omega arith;
+              narrow = small;
+              few = omega (arith, ltb-true between.held.n w t);
+              whole = s.whole;
+            }
+        go false t =
+            rw (e, t)
+            record { mid = s.mid; enough = ltb-false between.held.n w t; narrow = small; few = omega (arith, s.few); whole = s.whole }
 
   -- one group more
   pub split_one : (found : List ℕ) (full : Between) (i w x : ℕ) (rest : Held) → Full found full i w → w ≡ width i → i < count
