@@ -134,9 +134,9 @@ fn bad_at(figures: [u32; COUNT], i: usize) -> bool
 fn first_bad_from(figures: [u32; COUNT], from: usize) -> Option<u8>
     ensures { result ≡ named (first_bad_from figures from) }
 {
-    for i in from..COUNT {
-        if bad_at(figures, i) {
-            return Some(i as u8 + 1);
+    for at in from..COUNT {
+        if bad_at(figures, at) {
+            return Some(at as u8 + 1);
         }
     }
     None

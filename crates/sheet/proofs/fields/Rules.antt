@@ -1,11 +1,10 @@
 -- When a field is bad: each way out of the rule, and what a field that is not bad keeps.
 use mathlib.Core.Path.{◌≡◌, refl, sym}
-use mathlib.Core.Bool.{Bool, true, false, ◌||◌, or-false, or_assoc}
+use mathlib.Core.Bool.{Bool, true, false, ◌||◌, or-false}
 use mathlib.Core.List.{List}
 use Prim.Native.Nat.{ℕ, ◌<◌, ◌≤◌}
 use native.Mathlib.Omega.{arith}
-use borrow.Author.Tests.{lt-ltb, le-ltb, ltb-false, ne_eqb}
-use lib.Dec.{ltb}
+use borrow.Author.Tests.{ltb-false, ne_eqb}
 use lib.ListN.{get_or-eq_default}
 use Rattle.laws.proofs.Never.{never}
 use Rattle.sheet.specs.Fields.{◌bits◌upto◌, fields, field_at, count, nth, least, greatest, outside_at, pair_bad, bad_at}
@@ -21,22 +20,6 @@ pub record Fine (figures : List ℕ) (k : ℕ) : Type 0 where
   pub pair : pair_bad figures k ≡ false
 
 module _ (figures : List ℕ) (k : ℕ) where
-  pub outside_small : nth figures k < least k → ltb (nth figures k) (least k) ≡ outside_at figures k
-  unfolding outside_at
-  outside_small h = rw (lt-ltb (nth figures k) (least k) h)
-
-  pub outside_great : least k ≤ nth figures k → ltb (greatest k) (nth figures k) ≡ outside_at figures k
-  unfolding outside_at
-  outside_great h = rw (le-ltb (nth figures k) (least k) h)
-
-  pub bad_outside : outside_at figures k ≡ true → true ≡ bad_at figures k
-  unfolding outside_at bad_at
-  bad_outside e = rw (← or_assoc, e)
-
-  pub bad_by_pair : outside_at figures k ≡ false → pair_bad figures k ≡ bad_at figures k
-  unfolding outside_at bad_at
-  bad_by_pair e = rw (← or_assoc, e)
-
   pub not_bad : bad_at figures k ≡ false → Fine figures k
   unfolding bad_at
   not_bad e =

@@ -10,14 +10,14 @@ pub returns-then-bad_at : goal.returns-then-bad_at
 unfolding first_bad_from
 returns-then-bad_at c =
     found_named _ _
-    (first_here (bad_at _) c.loop-i.i count (omega arith) (sym c.bad_at.ensures ∙ c.if-bad_at.true) ∙ c.loop-i.invariant)
+    (first_here (bad_at _) c.loop-at.at count (omega arith) (sym c.bad_at.ensures ∙ c.if-bad_at.true) ∙ c.loop-at.invariant)
 
-pub loop-i-preserved : goal.loop-i-preserved
+pub loop-at-preserved : goal.loop-at-preserved
 unfolding first_bad_from
-loop-i-preserved c =
-    sym (first_on (bad_at _) c.loop-i.i count (omega arith) (sym c.bad_at.ensures ∙ c.if-bad_at.false))
-    ∙ c.loop-i.invariant
+loop-at-preserved c =
+    sym (first_on (bad_at _) c.loop-at.at count (omega arith) (sym c.bad_at.ensures ∙ c.if-bad_at.false))
+    ∙ c.loop-at.invariant
 
 pub returns : goal.returns
 unfolding first_bad_from
-returns c = none_named _ (first_end (bad_at _) c.loop-i.i count (omega arith) ∙ c.loop-i.invariant)
+returns c = none_named _ (first_end (bad_at _) c.loop-at.at count (omega arith) ∙ c.loop-at.invariant)

@@ -3,5 +3,5 @@ use mathlib.Core.Path.{◌≡◌}
 use Rattle.sheet.specs.Fields.{first_bad_from}
 use Rattle.sheet.proofs.fields.first_bad_from.Given as goal
 
-abbrev pub invariant-loop-i : goal.invariant-loop-i
-invariant-loop-i l = first_bad_from l.figures l.i ≡ first_bad_from l.figures l.from
+abbrev pub invariant-loop-at : goal.invariant-loop-at
+invariant-loop-at l = first_bad_from l.figures l.at ≡ first_bad_from l.figures l.from
