@@ -1,23 +1,24 @@
 -- The numbers that turn a sheet away in a design: that of each reason, the field that it names, and the rows of section 8 in their order, each as it is meant.
-use Rattle.std.specs.Prelude.{◌≡◌, List, [], ◌∷◌, ◌≢◌, ℕ, ◌*◌, ◌<◌, length}
+use Rattle.std.proofs.Common.{lit≤}
+use Rattle.std.specs.Prelude.{◌≡◌, List, [], ◌∷◌, ◌≢◌, ℕ, ◌*◌, ◌<◌, ◌≤◌, length}
 use Rattle.laws.specs.Extremes.{Least}
 use Rattle.laws.specs.Rows.{Row, ◌when◌}
 use Rattle.datum.specs.declared.Level.{Level}
 use Rattle.sheet.specs.Fields.{Bad}
 use Rattle.sheet.specs.Packing.{size, groups_of, SpareSet}
 use Rattle.sheet.specs.Sheets.{sheet_of}
-use Rattle.sheet.specs.Refusals.{SomeBad, read_fault_number, read_fault_field}
+use Rattle.sheet.specs.Refusals.{SomeBad, read_fault_number, read_fault_some, read_fault_field}
 use Rattle.sheet.specs.declared.Sheet.{Sheet}
 use Rattle.sheet.specs.declared.LevelSource.{LevelSource}
 use Rattle.sheet.specs.declared.LevelSource.TheVariants.{FromRecord, Given}
 use Rattle.gauge.specs.Frequency.{held_level}
-use Rattle.gauge.specs.Designing.{range_of, frequency_taken, TableUnfit, RecordShort, RangeWide, level_fault_number}
-use Rattle.depth.specs.Depth.{depth_fault_number}
+use Rattle.gauge.specs.Designing.{range_of, frequency_taken, TableUnfit, RecordShort, RangeWide, level_fault_number, level_fault_some}
+use Rattle.depth.specs.Depth.{depth_fault_number, depth_fault_some}
 use Rattle.depth.specs.Reasons.{FirstUnusable}
 use Rattle.depth.specs.declared.DepthFault.{DepthFault}
 use Rattle.depth.specs.declared.DepthFault.TheVariants.{NoSquatEntry, SiltOver, CutOver}
-use Rattle.width.specs.Refusals.{TightBend, NoWidthEntry, width_fault_number}
-use Rattle.speed.specs.Refusals.{PointLacking, TooFast, speed_fault_number}
+use Rattle.width.specs.Refusals.{TightBend, NoWidthEntry, width_fault_number, width_fault_some}
+use Rattle.speed.specs.Refusals.{PointLacking, TooFast, speed_fault_number, speed_fault_some}
 use Rattle.speed.specs.declared.Section.{Section}
 use Rattle.design.specs.Design.{depth_stretch, lanes_for}
 use Rattle.design.specs.Answers.{FiguresAre, section_of}
@@ -42,6 +43,15 @@ reason_field (NoLevel fault) = 0
 reason_field (NoWidth fault) = 0
 reason_field (NoDepth fault) = 0
 reason_field (NoSpeed fault) = 0
+
+-- no reason has the number of an answer
+pub reason_some : (r : Reason) → 1 ≤ reason_number r
+reason_some (NoSheet fault) = read_fault_some fault
+reason_some NoShip = lit≤ tt
+reason_some (NoLevel fault) = level_fault_some fault
+reason_some (NoWidth fault) = width_fault_some fault
+reason_some (NoDepth fault) = depth_fault_some fault
+reason_some (NoSpeed fault) = speed_fault_some fault
 
 -- where the number is 3, the field that is named is the first bad one
 abbrev pub NamesFirst : List ℕ → Reason → Type 0

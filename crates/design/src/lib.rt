@@ -5,13 +5,14 @@ ghost use Rattle.std.specs.Prelude.{◌≡◌};
 ghost use Rattle.design.specs.Design.{design_at, design_of};
 ghost use Rattle.design.specs.Numbers.{code_of, numbers_of};
 ghost use Rattle.design.specs.declared.Reason.TheVariants.{NoSheet, NoLevel, NoWidth, NoDepth, NoSpeed};
-ghost use Rattle.design.specs.Refusals.{reason_number, reason_field};
+ghost use Rattle.design.specs.Refusals.{reason_number, reason_field, reason_some};
 
 use class::Classes;
 use datum::{BelowChart, BelowLevel, Level};
 use depth::DepthFault;
 use gauge::LevelFault;
 use lanes::Lanes;
+use laws::Refusal;
 use sheet::ReadFault;
 use speed::SpeedFault;
 use width::WidthFault;
@@ -89,31 +90,34 @@ pub struct Figures {
     pub classes: Classes,
 }
 
-// The number of a reason: each room gives those of its own refusals, and 18 is the design's.
-fn reason_number(reason: Reason) -> u8
-    ensures { result ≡ reason_number reason }
-{
-    match reason {
-        Reason::NoSheet(fault) => sheet::read_fault_number(fault),
-        Reason::NoShip => 18,
-        Reason::NoLevel(fault) => gauge::level_fault_number(fault),
-        Reason::NoWidth(fault) => width::width_fault_number(fault),
-        Reason::NoDepth(fault) => depth::depth_fault_number(fault),
-        Reason::NoSpeed(fault) => speed::speed_fault_number(fault),
-    }
-}
+// Each room gives the number and the field of its own refusals, and 18 is the design's.
+impl Refusal for Reason {
+    ghost number_is = { reason_number };
 
-// Its field, 0 unless the number is 3.
-fn reason_field(reason: Reason) -> u8
-    ensures { result ≡ reason_field reason }
-{
-    match reason {
-        Reason::NoSheet(fault) => sheet::read_fault_field(fault),
-        Reason::NoShip => 0,
-        Reason::NoLevel(_) => 0,
-        Reason::NoWidth(_) => 0,
-        Reason::NoDepth(_) => 0,
-        Reason::NoSpeed(_) => 0,
+    ghost field_is = { reason_field };
+
+    ghost some = { reason_some };
+
+    fn number(self) -> u8 {
+        match self {
+            Reason::NoSheet(fault) => fault.number(),
+            Reason::NoShip => 18,
+            Reason::NoLevel(fault) => fault.number(),
+            Reason::NoWidth(fault) => fault.number(),
+            Reason::NoDepth(fault) => fault.number(),
+            Reason::NoSpeed(fault) => fault.number(),
+        }
+    }
+
+    fn field(self) -> u8 {
+        match self {
+            Reason::NoSheet(fault) => fault.field(),
+            Reason::NoShip => 0,
+            Reason::NoLevel(fault) => fault.field(),
+            Reason::NoWidth(fault) => fault.field(),
+            Reason::NoDepth(fault) => fault.field(),
+            Reason::NoSpeed(fault) => fault.field(),
+        }
     }
 }
 
@@ -142,7 +146,7 @@ pub fn code(design: Result<Figures, Reason>) -> u8
 {
     match design {
         Ok(_) => 0,
-        Err(reason) => reason_number(reason),
+        Err(reason) => reason.number(),
     }
 }
 
@@ -153,6 +157,6 @@ pub fn numbers(design: Result<Figures, Reason>) -> [i32; COUNT]
 {
     match design {
         Ok(figures) => numbering::answered(figures),
-        Err(reason) => numbering::refused(reason_number(reason), reason_field(reason)),
+        Err(reason) => numbering::refused(reason.number(), reason.field()),
     }
 }

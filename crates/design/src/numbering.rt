@@ -1,17 +1,8 @@
 // The numbers of a design: code, field and figures (definition, sections 8 and 10).
-ghost use Rattle.std.specs.Prelude.{◌≡◌, pos};
-ghost use Rattle.datum.specs.Datum.{level_of};
+ghost use Rattle.std.specs.Prelude.{◌≡◌};
 ghost use Rattle.design.specs.Numbers.{answered_numbers, refused_numbers};
 
 use crate::{COUNT, Figures};
-use datum::Level;
-
-// A level in cm above chart datum.
-fn level_number(level: Level) -> i32
-    ensures { result ≡ level_of level }
-{
-    level.0 as i32 - 500
-}
 
 // The number, the field, and zeros.
 pub fn refused(number: u8, field: u8) -> [i32; COUNT]
@@ -29,7 +20,7 @@ pub fn answered(f: Figures) -> [i32; COUNT]
     [
         0,
         0,
-        level_number(f.level),
+        f.level.above_chart(),
         i32::from(lanes::lane_count(f.lanes)),
         i32::from(f.sailing.0),
         i32::from(f.cut.0),
