@@ -24,7 +24,8 @@ const NUMBER_BYTES: usize = 21;
 
 const NEWLINE: u8 = b'\n';
 
-// The worksheet's figures alone, or the plain engine's behind them.
+// The worksheet's figures alone, or the plain engine's behind them. The program runs in one of the two, and has the plain numbers in both:
+// an Option in their place would be made of the form at each call.
 #[derive(Clone, Copy)]
 pub enum Form {
     Alone,

@@ -7,8 +7,8 @@ ghost use Rattle.lines.specs.Lines.{spaced, Put};
 use crate::fitting;
 use design::COUNT;
 
-// What is put in decimal: its text, and the most bytes of one.
-pub trait Decimal: Copy {
+// A word of a line: its text, and the most bytes of one.
+pub trait Word: Copy {
     ghost text: { Self → List ℕ };
 
     ghost most: { ℕ };
@@ -18,7 +18,7 @@ pub trait Decimal: Copy {
         ensures { Put buffer.old at (text self) buffer.new result × (result ≤ at + most) };
 }
 
-impl Decimal for u64 {
+impl Word for u64 {
     ghost text = { count_text };
 
     ghost most = { 20 };
@@ -28,7 +28,7 @@ impl Decimal for u64 {
     }
 }
 
-impl Decimal for i32 {
+impl Word for i32 {
     ghost text = { number_text };
 
     ghost most = { 11 };
@@ -48,7 +48,7 @@ pub fn put_numbers(numbers: [i32; COUNT], buffer: &mut [u8], at: usize) -> usize
 }
 
 // Words of one type.
-pub fn put_words<T: Decimal>(words: &[T], buffer: &mut [u8], at: usize) -> usize
+pub fn put_words<T: Word>(words: &[T], buffer: &mut [u8], at: usize) -> usize
     requires { at + (T.most + 1) * length words.now + (21 - T.most) ≤ length buffer.old }
     ensures { Put buffer.old at (spaced (map T.text words.now)) buffer.new result × (result ≤ at + (T.most + 1) * length words.now) }
 {
