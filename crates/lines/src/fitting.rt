@@ -26,11 +26,11 @@ pub fn put_signed(number: i32, buffer: &mut [u8], at: usize) -> usize
     requires { at + 21 ≤ length buffer.old }
     ensures { Put buffer.old at (number_text number) buffer.new result × (result ≤ at + 11) }
 {
-    let count = number.unsigned_abs() as u64;
     if number < 0 {
         buffer[at] = b'-';
-        return put_count(count, buffer, at + 1);
+        return put_count(number.unsigned_abs() as u64, buffer, at + 1);
     }
+    let count = number.unsigned_abs() as u64;
     if count < 10 {
         return put_digit(count, buffer, at);
     }

@@ -5,7 +5,7 @@ use Rattle.lines.proofs.fitting.put_signed.Goals as goal
 
 pub returns-then-number-lt0 : goal.returns-then-number-lt0
 returns-then-number-lt0 c =
-    put_negative c.ranges.number c.unsigned_abs-count.ensures.value c.if-number-lt0.true c.put_count.ensures.0 (omega arith)
+    put_negative c.ranges.number c.unsigned_abs.ensures.value c.if-number-lt0.true c.put_count.ensures.0 (omega arith)
 
 pub returns-then-count-lt10 : goal.returns-then-count-lt10
 returns-then-count-lt10 c =
