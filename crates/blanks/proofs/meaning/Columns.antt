@@ -1,27 +1,18 @@
 -- A figure in its columns: a word from the left, everything else from the right, and at least as many columns as are asked for.
 use mathlib.Core.Path.{◌≡◌, refl, ap, sym}
-use mathlib.Core.List.{List, [], ◌∷◌}
-use Prim.Native.Nat.{ℕ, zero, suc, ◌+◌, ◌-◌, ◌*◌, ◌/◌, ◌≤◌, ◌<◌}
+use mathlib.Core.List.{List, []}
+use Prim.Native.Nat.{ℕ, ◌+◌, ◌-◌, ◌*◌, ◌/◌, ◌≤◌, ◌<◌}
 use native.Mathlib.Omega.{arith}
 use borrow.Author.Tests.{lt-ltb, le-ltb}
-use denote.Enum.Declared.{tag_of}
 use lib.ListN.{length, take, drop, replicate, length-append, length-replicate, length-take}
 use lib.Seq.{length-take-le}
-use types.Run.{OneOf, miss}
 use Rattle.lines.specs.Lines.{space, Put}
 use Rattle.lines.proofs.decimals.Digits.{below_or}
 use Rattle.lines.proofs.putting.Placing.{head_stands, put_on}
 use Rattle.blanks.specs.Blanks.{trimmed, word_bytes, word_at, figure_text, lacking, at_left, at_right, blank_text}
 use Rattle.blanks.specs.declared.Figure.{Figure}
 use Rattle.blanks.specs.declared.Figure.TheVariants.{Count, Signed, Letter, Word, Nothing}
-use Rattle.blanks.specs.contracts.Figure.{the_type}
 use Rattle.blanks.proofs.meaning.Trimming.{trimmed_short}
-
--- the first of some spaces
-pub take_spaces : (m n : ℕ) → m ≤ n → take m (replicate n space) ≡ replicate m space
-take_spaces zero n h = refl
-take_spaces (suc m) zero h = absurd (omega arith)
-take_spaces (suc m) (suc n) h = rw (take_spaces m n (omega arith))
 
 -- how many columns a text comes to
 module _ (width : ℕ) (text : List ℕ) where
@@ -48,10 +39,6 @@ module _ {buffer middle later : List ℕ} {at between end : ℕ} (width : ℕ) w
 -- what was put at the beginning stands there
 pub put_first : {buffer text later : List ℕ} {end : ℕ} → Put buffer 0 text later end → take end later ≡ text
 put_first {buffer} {text} p = rw (p.after, p.holds) (head_stands buffer 0 text (omega arith))
-
--- a figure that a match left over is no word
-pub not_word : (figure : Figure) → OneOf (0 ∷ 1 ∷ 2 ∷ 4 ∷ []) (tag_of the_type figure) → (i : ℕ) → figure ≡ Word i → ⊥
-not_word figure k i e = miss (0 ∷ 1 ∷ 2 ∷ 4 ∷ []) 3 tt (rw e at k)
 
 module _ (words : List ℕ) where
   pub at_the_right : (width : ℕ) (figure : Figure) → ((i : ℕ) → figure ≡ Word i → ⊥) → blank_text words width figure ≡ at_right width (figure_text words figure)

@@ -1,6 +1,6 @@
 -- `blanks::put_filled` meets its contract: where 12 bytes for each of the text's fit, and where they do not.
 use native.Mathlib.Omega.{arith}
-use Rattle.lines.proofs.putting.Fitting.{unfit, fitting, room}
+use Rattle.lines.proofs.putting.Fitting.{unfit, fitting}
 use Rattle.blanks.proofs.put_filled.Goals as goal
 
 pub returns-then-not-text_fits : goal.returns-then-not-text_fits
@@ -13,6 +13,3 @@ returns c =
     let p = c.put_text.ensures in
     let a = fitting _ _ _ _ c.text_fits.ensures c.if-not-text_fits.false p.0 in
     (a.0, a.1, p.1)
-
-pub put_text-requires : goal.put_text-requires
-put_text-requires c = room _ _ _ c.text_fits.ensures c.if-not-text_fits.false

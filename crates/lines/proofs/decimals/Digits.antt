@@ -73,6 +73,13 @@ places_four_more n h =
 pub places_some : (n : ℕ) → 1 ≤ length (digits n)
 places_some = by_tens (λ (n : ℕ). 1 ≤ length (digits n)) (λ n h. omega (arith, places_one n h)) (λ n h p. omega (arith, places_more n h))
 
+-- a number of one digit is below ten, one of more is not
+pub one_place : (n : ℕ) → length (digits n) ≤ 1 → n < 10
+one_place n h = below_or n 10 (λ l. l) (λ l. absurd (omega (arith, places_more n l, places_some (n / 10))))
+
+pub more_places : (n : ℕ) → 2 ≤ length (digits n) → 10 ≤ n
+more_places n h = below_or n 10 (λ l. absurd (omega (arith, places_one n l))) (λ l. l)
+
 -- a number below ten to a power has no more digits than the power
 pub places_at_most : (k n : ℕ) → n < 10 ^ (k + 1) → length (digits n) ≤ k + 1
 places_at_most zero n h = omega (arith, places_one n (omega arith))

@@ -1,6 +1,6 @@
 -- `lines::put_decimal` meets its contract: where 20 bytes fit, and where they do not.
 use Rattle.lines.specs.Lines.{count_bytes}
-use Rattle.lines.proofs.putting.Fitting.{room, unfit, fitting}
+use Rattle.lines.proofs.putting.Fitting.{unfit, fitting}
 use Rattle.lines.proofs.put_decimal.Goals as goal
 
 pub returns : goal.returns
@@ -9,6 +9,3 @@ returns c =
 
 pub returns-then-not-fits : goal.returns-then-not-fits
 returns-then-not-fits c = unfit count_bytes _ _ _ c.fits.ensures c.if-not-fits.true
-
-pub put_count-requires : goal.put_count-requires
-put_count-requires c = room count_bytes _ _ c.fits.ensures c.if-not-fits.false

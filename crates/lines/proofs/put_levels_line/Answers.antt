@@ -1,8 +1,6 @@
 -- `lines::put_levels_line` meets its contract: where a line fits, and where none does.
-use native.Mathlib.Omega.{arith}
-use lib.ListN.{length}
 use Rattle.lines.specs.Lines.{line_bytes, levels_line}
-use Rattle.lines.proofs.putting.Fitting.{room, unfit, fitting}
+use Rattle.lines.proofs.putting.Fitting.{unfit, fitting}
 use Rattle.lines.proofs.put_levels_line.Goals as goal
 
 pub returns : goal.returns
@@ -12,6 +10,3 @@ returns c =
 
 pub returns-then-not-line_fits : goal.returns-then-not-line_fits
 returns-then-not-line_fits c = unfit line_bytes _ _ _ c.line_fits.ensures c.if-not-line_fits.true
-
-pub put_letter_line-requires : goal.put_letter_line-requires
-put_letter_line-requires c = let a = c.args in omega (arith, room line_bytes a.at (length a.buffer.now) c.line_fits.ensures c.if-not-line_fits.false)

@@ -5,6 +5,3 @@ use Rattle.lines.proofs.put_plain.Goals as goal
 
 pub returns-in-Alone : goal.returns-in-Alone
 returns-in-Alone c = rw c.in-Alone.is (put_none, omega arith)
-
-pub returns-in-Both : goal.returns-in-Both
-returns-in-Both c = rw c.in-Both.is (c.put_counts.ensures.0, omega arith)

@@ -1,6 +1,6 @@
 -- `lines::put_route_line` meets its contract: where a line fits, and where none does.
 use Rattle.lines.specs.Lines.{line_bytes}
-use Rattle.lines.proofs.putting.Fitting.{room, unfit, fitting}
+use Rattle.lines.proofs.putting.Fitting.{unfit, fitting}
 use Rattle.lines.proofs.put_route_line.Goals as goal
 
 pub returns : goal.returns
@@ -9,6 +9,3 @@ returns c =
 
 pub returns-then-not-line_fits : goal.returns-then-not-line_fits
 returns-then-not-line_fits c = unfit line_bytes _ _ _ c.line_fits.ensures c.if-not-line_fits.true
-
-pub put_last_line-requires : goal.put_last_line-requires
-put_last_line-requires c = room line_bytes _ _ c.line_fits.ensures c.if-not-line_fits.false

@@ -4,7 +4,7 @@ use mathlib.Core.Path.{◌≡◌, refl, sym, ◌∙◌}
 use mathlib.Core.Bool.{Bool, true, false}
 use mathlib.Core.List.{List, ◌++◌}
 use mathlib.Core.Logic.{◌↔◌}
-use Prim.Native.Nat.{ℕ, ◌+◌, ◌-◌, ◌≤◌, ◌<◌}
+use Prim.Native.Nat.{ℕ, ◌+◌, ◌≤◌, ◌<◌}
 use native.Mathlib.Omega.{arith}
 use borrow.Author.Tests.{le-leb, lt-leb, leb-true}
 use lib.Dec.{leb}
@@ -12,13 +12,6 @@ use lib.ListN.{length, take, drop}
 use Rattle.lines.specs.Lines.{with_text, place_within, buffer_within, Put}
 use Rattle.lines.proofs.decimals.Digits.{below_or}
 use Rattle.lines.proofs.putting.Placing.{put_length, head_stands, no_shorter, before_stays, text_stands, after_stays}
-
--- the test that no sum can wrap
-pub fits_from : (size at bytes : ℕ) → size ≤ bytes → leb at (bytes - size) ≡ leb (at + size) bytes
-fits_from size at bytes h =
-    below_or bytes (at + size)
-    (λ l. rw (lt-leb (at + size) bytes l, lt-leb at (bytes - size) (omega arith)))
-    (λ l. rw (le-leb (at + size) bytes l, le-leb at (bytes - size) (omega arith)))
 
 -- a call that asks whether there is less, and goes on, has room
 pub room : (size at bytes : ℕ) {fits : Bool} → fits ≡ leb (at + size) bytes → fits ≡ true → at + size ≤ bytes

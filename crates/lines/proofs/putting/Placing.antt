@@ -2,8 +2,9 @@
 -- By the lengths of the parts.
 use mathlib.Core.Path.{◌≡◌, refl, ap, sym, ◌∙◌}
 use mathlib.Core.List.{List, [], ◌∷◌, ◌++◌, append_assoc}
-use Prim.Native.Nat.{ℕ, suc, ◌+◌, ◌≤◌, ◌<◌}
+use Prim.Native.Nat.{ℕ, suc, ◌+◌, ◌-◌, ◌≤◌, ◌<◌}
 use native.Mathlib.Nat.{add-zero}
+use borrow.Rule.Slice.PartMut.{put_mid}
 use native.Mathlib.Omega.{arith}
 use lib.ListN.{length, take, drop, set, get_or, length-append, length-drop, take-append-drop}
 use lib.Seq.{length-take-le, take_at, drop_at, drop-drop, take-suc, set_at}
@@ -59,6 +60,13 @@ put_long {buffer} {text} {at = at} p h = ap length p.holds ∙ put_length buffer
 pub put_none : {buffer : List ℕ} {at : ℕ} → Put buffer at [] buffer at
 unfolding with_text
 put_none {buffer} {at} = record { after = omega arith; holds = rw add-zero (sym (take-append-drop at buffer)) }
+
+-- a text copied over as many bytes
+pub put_part : (buffer : List ℕ) (at : ℕ) (text : List ℕ) → Put buffer at text (put_mid at (at + length text - at) buffer text) (at + length text)
+unfolding with_text
+put_part buffer at text =
+    let e : at + length text - at ≡ length text = omega arith in
+    record { after = refl; holds = rw (e, drop-drop) }
 
 module _ {buffer : List ℕ} {at : ℕ} where
   -- a byte in front of a text that stands

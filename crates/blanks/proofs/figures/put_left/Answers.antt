@@ -6,5 +6,5 @@ use Rattle.blanks.proofs.figures.put_left.Goals as goal
 pub returns : goal.returns
 returns c =
     let width = c.args.width in
-    let p = left_put width c.put_word-end.ensures.0 (rw c.lacking.ensures at c.put_spaces.ensures.0) (omega arith) in
+    let p = left_put width c.put_word-end.ensures.0 (rw c.saturating_sub.ensures at c.put_spaces.ensures.0) (omega arith) in
     (p, omega arith)

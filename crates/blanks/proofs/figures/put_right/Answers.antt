@@ -1,21 +1,11 @@
 -- `blanks::figures::put_right` meets its contract: the spaces that the bytes lack, and the bytes behind them.
-use mathlib.Core.Path.{sym}
 use native.Mathlib.Omega.{arith}
 use lib.ListN.{length-take}
-use lib.Seq.{length-take-le}
 use Rattle.blanks.proofs.meaning.Columns.{right_put}
 use Rattle.blanks.proofs.figures.put_right.Goals as goal
-
-pub slice_bounds-put-end : goal.slice_bounds-put-end
-slice_bounds-put-end c =
-    sym (length-take-le c.args.bytes c.args.columns (omega arith))
-
-pub put-requires : goal.put-requires
-put-requires c =
-    omega (arith, length-take c.args.bytes c.args.columns)
 
 pub returns : goal.returns
 returns c =
     let a = c.args in
-    let p = right_put a.width a.bytes a.columns (omega arith) (rw c.lacking.ensures at c.put_spaces-start.ensures.0) c.put.ensures.0 (omega arith) in
+    let p = right_put a.width a.bytes a.columns (omega arith) (rw c.saturating_sub.ensures at c.put_spaces-start.ensures.0) c.put.ensures.0 (omega arith) in
     (p, omega (arith, length-take a.bytes a.columns))

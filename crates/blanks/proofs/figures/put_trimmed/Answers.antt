@@ -11,11 +11,6 @@ slice_bounds-put-end c =
     let word = c.args.word.now in
     sym (length-take-le _ word (first_bytes word _ c.trimmed_length-bytes.ensures).0)
 
-pub put-requires : goal.put-requires
-put-requires c =
-    let word = c.args.word.now in
-    omega (arith, length-take c.trimmed_length-bytes.result word)
-
 pub returns : goal.returns
 returns c =
     let word = c.args.word.now in

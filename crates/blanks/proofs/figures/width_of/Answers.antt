@@ -1,27 +1,26 @@
 -- `blanks::figures::width_of` meets its contract: each way out is a case of `width_of`.
 use native.Mathlib.Omega.{arith}
-use borrow.Author.Tests.{lt-ltb, le-ltb}
+use Rattle.std.proofs.lemmas.Grind.{common_steps}
+use Rattle.std.proofs.lemmas.Bool.Decides.{nat_tests}
 use Rattle.blanks.specs.Blanks.{width_of}
 use Rattle.blanks.proofs.figures.width_of.Goals as goal
 
-pub returns-then-byte-lt48 : goal.returns-then-byte-lt48
+pub returns-in-48-to-57 : goal.returns-in-48-to-57
 unfolding width_of
-returns-then-byte-lt48 c = (rw (lt-ltb _ _ c.if-byte-lt48.true), omega arith)
+returns-in-48-to-57 c = grind (arith, nat_tests, common_steps)
 
-pub returns-then-byte-lt58 : goal.returns-then-byte-lt58
+pub returns-in-65-to-79 : goal.returns-in-65-to-79
 unfolding width_of
-returns-then-byte-lt58 c = (rw (le-ltb _ _ c.if-byte-lt48.false, lt-ltb _ _ c.if-byte-lt58.true), omega arith)
+returns-in-65-to-79 c = grind (arith, nat_tests, common_steps)
 
-pub returns-then-byte-lt65 : goal.returns-then-byte-lt65
+pub returns-in_default : goal.returns-in_default
 unfolding width_of
-returns-then-byte-lt65 c = (rw (le-ltb _ _ c.if-byte-lt48.false, le-ltb _ _ c.if-byte-lt58.false, lt-ltb _ _ c.if-byte-lt65.true), omega arith)
+returns-in_default c = grind (arith, nat_tests, common_steps)
 
-pub returns-then-byte-lt80 : goal.returns-then-byte-lt80
+pub returns-in_default-2 : goal.returns-in_default-2
 unfolding width_of
-returns-then-byte-lt80 c =
-    (rw (le-ltb _ _ c.if-byte-lt48.false, le-ltb _ _ c.if-byte-lt58.false, le-ltb _ _ c.if-byte-lt65.false, lt-ltb _ _ c.if-byte-lt80.true), omega arith)
+returns-in_default-2 c = grind (arith, nat_tests, common_steps)
 
-pub returns : goal.returns
+pub returns-in_default-3 : goal.returns-in_default-3
 unfolding width_of
-returns c =
-    (rw (le-ltb _ _ c.if-byte-lt48.false, le-ltb _ _ c.if-byte-lt58.false, le-ltb _ _ c.if-byte-lt65.false, le-ltb _ _ c.if-byte-lt80.false), omega arith)
+returns-in_default-3 c = grind (arith, nat_tests, common_steps)

@@ -1,7 +1,0 @@
--- `blanks::putting::put_byte` meets its contract: the byte stands at its place.
-use native.Mathlib.Omega.{arith}
-use Rattle.lines.proofs.putting.Placing.{put_byte}
-use Rattle.blanks.proofs.putting.put_byte.Goals as goal
-
-pub returns : goal.returns
-returns c = (put_byte (omega arith), omega arith)
