@@ -118,7 +118,7 @@ first_bad_from figures from = first_from (bad_at figures) from (count - from)
 unfoldable pub first_bad : List ℕ → ℕ
 first_bad figures = first_of (bad_at figures) count
 
--- such a number as the code has it: no number where there is no bad field
+-- such a number as the code has it, none for 0; here 0 stays, since the rows and `Valid` are said by it
 abbrev pub named : ℕ → Option ℕ
 named zero = None
 named (suc k) = Some (suc k)

@@ -37,16 +37,16 @@ read_fault_number WrongLength = 1
 read_fault_number SpareBitSet = 2
 read_fault_number (BadField field) = 3
 
+abbrev pub read_fault_field : ReadFault → ℕ
+read_fault_field WrongLength = 0
+read_fault_field SpareBitSet = 0
+read_fault_field (BadField field) = field
+
 -- 0 is no refusal's number
 pub read_fault_some : (fault : ReadFault) → 1 ≤ read_fault_number fault
 read_fault_some WrongLength = lit≤ tt
 read_fault_some SpareBitSet = lit≤ tt
 read_fault_some (BadField field) = lit≤ tt
-
-abbrev pub read_fault_field : ReadFault → ℕ
-read_fault_field WrongLength = 0
-read_fault_field SpareBitSet = 0
-read_fault_field (BadField field) = field
 
 -- the number and the field of what bytes are read as: the fault's, 0 for a sheet
 abbrev pub read_number : Result Sheet ReadFault → ℕ
@@ -62,13 +62,13 @@ abbrev pub write_fault_number : WriteFault → ℕ
 write_fault_number PlaceTooSmall = 12
 write_fault_number (BadFieldToWrite field) = 3
 
-pub write_fault_some : (fault : WriteFault) → 1 ≤ write_fault_number fault
-write_fault_some PlaceTooSmall = lit≤ tt
-write_fault_some (BadFieldToWrite field) = lit≤ tt
-
 abbrev pub write_fault_field : WriteFault → ℕ
 write_fault_field PlaceTooSmall = 0
 write_fault_field (BadFieldToWrite field) = field
+
+pub write_fault_some : (fault : WriteFault) → 1 ≤ write_fault_number fault
+write_fault_some PlaceTooSmall = lit≤ tt
+write_fault_some (BadFieldToWrite field) = lit≤ tt
 
 abbrev pub written_number : Result (Unit {0}) WriteFault → ℕ
 written_number (Ok tt) = 0

@@ -53,16 +53,6 @@ loop-held-preserved c =
       record { same = rw length-set c.loop-held.invariant.2.same; tail = rw drop-set-lt c.loop-held.invariant.2.tail },
     )
 
-pub loop-i-preserved : goal.loop-i-preserved
-loop-i-preserved c = (
-  c.loop-held.invariant.0,
-  omega arith,
-  record {
-    same = c.loop-held.invariant.2.same ∙ c.loop-i.invariant.2.same;
-    tail = c.loop-held.invariant.2.tail ∙ c.loop-i.invariant.2.tail;
-  },
-)
-
 pub returns : goal.returns
 unfolding bytes_of
 returns c =
@@ -88,6 +78,3 @@ bounds-place-at c = let h = in_sheet (goal.at.bounds-place-at c).In-loop-held in
 
 pub overflow_add-at : goal.overflow_add-at
 overflow_add-at c = let h = in_sheet (goal.at.overflow_add-at c).In-loop-held in omega arith
-
-pub loop-held-smaller : goal.loop-held-smaller
-loop-held-smaller c = omega (arith, c.rest-held.ensures.1)

@@ -1,5 +1,4 @@
 -- `sheet::bits::split_on` meets its contract: between two steps the number of the bytes read is that of the groups given out, followed by the held bits.
-use mathlib.Core.Path.{◌≡◌}
 use Prim.Native.Nat.{◌<◌}
 use native.Mathlib.Omega.{arith}
 use borrow.Author.Rules.{rules}
@@ -22,15 +21,10 @@ full c =
     (omega (arith, width_le l.i (omega (arith, c.requires.from_le_to.1, c.loop-i-test.true))))
     l.invariant c.filled-full.ensures
 
-pub filled-full-requires : goal.filled-full-requires
-filled-full-requires c =
-    record {
-      bytes_len = c.requires.bytes_len;
-      bits_bound = c.loop-i.invariant.mid.tail.low;
-      n_bound =
-          word_left c.args.bytes.now c.loop-i.figures c.loop-i.between c.loop-i.i
-          c.width_of-width.result c.loop-i.invariant (omega (arith, c.requires.from_le_to.1, c.loop-i-test.true)) c.width_of-width.ensures;
-    }
+pub filled-full-requires-clause-n_bound : goal.filled-full-requires-clause-n_bound
+filled-full-requires-clause-n_bound c =
+    word_left c.args.bytes.now c.loop-i.figures c.loop-i.between c.loop-i.i c.width_of-width.result c.loop-i.invariant (omega arith)
+    c.width_of-width.ensures
 
 pub overflow_cast-figures : goal.overflow_cast-figures
 overflow_cast-figures c =
@@ -44,20 +38,8 @@ loop-i-preserved c =
     (full (goal.at.loop-i-preserved c).After-filled-full) c.width_of-width.ensures (in_table (goal.at.loop-i-preserved c).In-loop-i)
     c.first.ensures c.rest.ensures.0 c.rest.ensures.1
 
-pub returns : goal.returns
-returns c = let e : c.loop-i.i ≡ c.args.to = omega arith in rw e at c.loop-i.invariant
-
-pub loop-i-init : goal.loop-i-init
-loop-i-init c = c.requires.split_to
-
-pub width_of-width-requires : goal.width_of-width-requires
-width_of-width-requires c = let h = in_table c in omega arith
-
 pub first-requires : goal.first-requires
 first-requires c = let f = full (goal.at.first-requires c).After-filled-full in (f.enough, omega (arith, f.few, f.narrow))
-
-pub bounds-figures-i : goal.bounds-figures-i
-bounds-figures-i c = in_table (goal.at.bounds-figures-i c).In-loop-i
 
 pub rest-requires : goal.rest-requires
 rest-requires c = let f = full (goal.at.rest-requires c).After-filled-full in (f.enough, omega (arith, f.few, f.narrow))
