@@ -1,5 +1,5 @@
 -- What the typed lines promise, in the definition's words (section 14). Each proof stands where it is cited.
-use Rattle.std.specs.Prelude.{Result, Ok, Err}
+use Rattle.std.specs.Prelude.{Result, Ok, Err, Option, Some, None}
 use mathlib.Core.Path.{◌≡◌}
 use mathlib.Core.Bool.{Bool, true, false}
 use mathlib.Core.List.{List, map}
@@ -31,7 +31,7 @@ pub line_says_figure : (i n : ℕ) → i < count → n ≤ (values_of i).greates
 line_says_figure = complete
 
 -- So does the line of a number of at most nine digits that is outside its row's values.
-pub line_says_number : (i n : ℕ) → (row_at i).1 ≢ Words → n < 1000000000 → entry_of i (line_text i n) ≡ Ok n
+pub line_says_number : (i n : ℕ) → (row_at i).kind ≢ Words → n < 1000000000 → entry_of i (line_text i n) ≡ Ok n
 line_says_number = complete_number
 
 -- A line says a figure exactly when it is the figure's line.
@@ -54,21 +54,21 @@ has_no_other_name = other_name
 pub never_two_names : (line : List ℕ) (i j : ℕ) → i < count → j < count → i ≢ j → named line i ≡ true → named line j ≡ false
 never_two_names = one_name
 
--- The row that is told is the one whose name the line has; 28 is told exactly when it has none.
-pub row_named_exactly : (line : List ℕ) (i : ℕ) → i < count → (row_named line ≡ i) ↔ (named line i ≡ true)
+-- The row that is told is the one whose name the line has; none is told exactly when it has none.
+pub row_named_exactly : (line : List ℕ) (i : ℕ) → i < count → (row_named line ≡ Some i) ↔ (named line i ≡ true)
 row_named_exactly = row_exactly
 
-pub no_row_named_exactly : (line : List ℕ) → (row_named line ≡ count) ↔ ((i : ℕ) → i < count → named line i ≡ false)
+pub no_row_named_exactly : (line : List ℕ) → (row_named line ≡ None) ↔ ((i : ℕ) → i < count → named line i ≡ false)
 no_row_named_exactly = no_row_exactly
 
-pub row_named_within : (line : List ℕ) → row_named line ≤ count
+pub row_named_within : (line : List ℕ) (i : ℕ) → row_named line ≡ Some i → i < count
 row_named_within = row_within
 
-pub line_names_row : (i n : ℕ) → i < count → row_named (line_text i n) ≡ i
+pub line_names_row : (i n : ℕ) → i < count → row_named (line_text i n) ≡ Some i
 line_names_row = line_row
 
 -- No name is told exactly when the line has another row's, or none.
-pub no_name_by_row : (i : ℕ) (line : List ℕ) → i < count → (entry_of i line ≡ (Err NoName)) ↔ (row_named line ≢ i)
+pub no_name_by_row : (i : ℕ) (line : List ℕ) → i < count → (entry_of i line ≡ (Err NoName)) ↔ (row_named line ≢ Some i)
 no_name_by_row = no_name_row
 
 -- Each way out of reading a line, exactly when it is taken: no name; a name, and no figure behind it; a figure, and not its unit; the figure's line.
@@ -160,7 +160,7 @@ expected_buffer_unique i at buffer = one_answer
 pub entry_unique : (i : ℕ) (line : List ℕ) (r s : Result ℕ EntryFault) → r ≡ entry_of i line → s ≡ entry_of i line → r ≡ s
 entry_unique i line = one_answer
 
-pub row_named_unique : (line : List ℕ) (r s : ℕ) → r ≡ row_named line → s ≡ row_named line → r ≡ s
+pub row_named_unique : (line : List ℕ) (r s : Option ℕ) → r ≡ row_named line → s ≡ row_named line → r ≡ s
 row_named_unique line = one_answer
 
 pub begins_unique : (bytes text : List ℕ) (r s : Bool) → r ≡ stands text bytes → s ≡ stands text bytes → r ≡ s

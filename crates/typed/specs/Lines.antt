@@ -55,7 +55,7 @@ figure_by Words words n = word_text words n
 figure_by Level words n = level_text n
 
 unfoldable pub figure_text : Row → ℕ → List ℕ
-figure_text r n = figure_by r.1 r.3 n
+figure_text r n = figure_by r.kind r.words n
 
 -- a space and a unit, nothing where there is none
 unfoldable pub behind : List ℕ → List ℕ
@@ -70,11 +70,11 @@ unit_by Words unit n = behind unit
 unit_by Level unit n = ifᵇ n =ᵇ 0 then [] else behind unit
 
 unfoldable pub unit_text : Row → ℕ → List ℕ
-unit_text r n = unit_by r.1 r.2 n
+unit_text r n = unit_by r.kind r.unit n
 
 -- the name and a space; the figure behind them; the whole line
 unfoldable pub name_text : Row → List ℕ
-name_text r = token r.0 ++ space ∷ []
+name_text r = token r.name ++ space ∷ []
 
 unfoldable pub front_text : Row → ℕ → List ℕ
 front_text r n = name_text r ++ figure_text r n
@@ -97,7 +97,7 @@ blank_text i = blank_row (row_at i)
 unfoldable pub words_from : Row → ℕ → ℕ → List ℕ
 words_from r j zero = []
 words_from r j (suc most) =
-    ifᵇ get_or r.3 (16 * j) 0 =ᵇ space then [] else (bytes_of " | " ++ row_text r j) ++ words_from r (j + 1) most
+    ifᵇ get_or r.words (16 * j) 0 =ᵇ space then [] else (bytes_of " | " ++ row_text r j) ++ words_from r (j + 1) most
 
 -- the lines of two figures
 unfoldable pub span_text : Row → ℕ → ℕ → List ℕ
@@ -112,7 +112,7 @@ lines_by Words r values = row_text r 0 ++ words_from r 1 5
 lines_by Level r values = (row_text r 0 ++ bytes_of " | ") ++ span_text r 1 values.greatest
 
 unfoldable pub lines_text : Row → Range → List ℕ
-lines_text r values = lines_by r.1 r values
+lines_text r values = lines_by r.kind r values
 
 unfoldable pub expected_text : ℕ → List ℕ
 expected_text i = lines_text (row_at i) (values_of i)

@@ -1,5 +1,5 @@
 -- What a line says in the place of a row: the figure is guessed, put back as the row has it and compared (sections 14.2 and 14.3).
-use Rattle.std.specs.Prelude.{ℕ, ◌+◌, ◌-◌, ◌*◌, Bool, true, false, List, [], ◌∷◌, length, drop, Result, Ok, Err}
+use Rattle.std.specs.Prelude.{ℕ, ◌+◌, ◌-◌, ◌*◌, Bool, true, false, List, [], ◌∷◌, length, drop, Result, Ok, Err, Option, Some, None}
 use Rattle.laws.specs.Choice.{ifᵇ◌then◌else◌, ◌≤ᵇ◌, ◌<ᵇ◌, ◌=ᵇ◌}
 use Rattle.laws.specs.First.{first_of}
 use Rattle.typed.specs.Rows.{bytes_of, count, row_at}
@@ -63,7 +63,7 @@ guess_by Words words bytes = word_guess words bytes
 guess_by Level words bytes = level_guess bytes
 
 unfoldable pub guessed : Row → List ℕ → ℕ
-guessed r bytes = guess_by r.1 r.3 bytes
+guessed r bytes = guess_by r.kind r.words bytes
 
 -- what a line says of a figure: that it is its figure, or where it is another line
 unfoldable pub entry_on : Row → List ℕ → ℕ → Result ℕ EntryFault
@@ -82,9 +82,9 @@ entry_by r line =
 unfoldable pub entry_of : ℕ → List ℕ → Result ℕ EntryFault
 entry_of i line = entry_by (row_at i) line
 
--- a line has the name of the row after the first i; the first such row, the count where there is none
+-- a line has the name of the row after the first i; the first such row, none where there is none
 unfoldable pub named : List ℕ → ℕ → Bool
 named line i = stands (name_text (row_at i)) line
 
-unfoldable pub row_named : List ℕ → ℕ
-row_named line = ifᵇ first_of (named line) count =ᵇ 0 then count else first_of (named line) count - 1
+unfoldable pub row_named : List ℕ → Option ℕ
+row_named line = ifᵇ first_of (named line) count =ᵇ 0 then None else Some (first_of (named line) count - 1)

@@ -25,7 +25,7 @@ slots words = take 96 (flatten (map slot words) ++ replicate 96 32)
 
 -- a row: its name, how its figure is typed, its unit, and the words of its codes
 abbrev pub row : String → Kind → String → List String → Row
-row name kind unit words = record { 0 = slot name; 1 = kind; 2 = slot unit; 3 = slots words }
+row name kind unit words = record { name = slot name; kind = kind; unit = slot unit; words = slots words }
 
 unfoldable pub rows : List Row
 rows =

@@ -77,23 +77,21 @@ pub fn read_line(i: usize, line: &[u8]) -> Result<u32, EntryFault>
     reading::read_row(table::row_at(i), line)
 }
 
-// The first row whose name a line has, by how many stand before it; 28 where it has none.
-pub fn row_named(line: &[u8]) -> usize
+// The first row whose name a line has, by how many stand before it; none where it has no row's.
+pub fn row_named(line: &[u8]) -> Option<usize>
     ensures { result ≡ row_named line.now }
 {
-    let mut i: usize = 0;
-    while i < COUNT {
+    for i in 0..COUNT {
         if reading::has_name(table::row_at(i), line) {
-            return i;
+            return Some(i);
         }
-        i += 1;
     }
-    i
+    None
 }
 
 // Whether bytes begin with a text.
 pub fn begins_with(bytes: &[u8], text: &[u8]) -> bool
     ensures { result ≡ stands text.now bytes.now }
 {
-    reading::front_stands(text, bytes)
+    bytes.starts_with(text)
 }

@@ -1,5 +1,5 @@
 // The text of a row: name, figure and unit, put into a buffer (definition, section 14.2).
-ghost use Rattle.std.specs.Prelude.{◌+◌, ◌*◌, ◌-◌, ◌≤◌, ◌<◌, length};
+ghost use Rattle.std.specs.Prelude.{◌≡◌, ◌+◌, ◌*◌, ◌-◌, ◌≤◌, ◌<◌, length};
 ghost use Rattle.lines.specs.Lines.{Put};
 ghost use Rattle.typed.specs.Lines.{token, tenths_text, hundredths_text, level_text, word_text, figure_text, behind, unit_text, name_text, row_text, blank_row, words_from, span_text, lines_text};
 
@@ -7,13 +7,13 @@ use crate::Kind;
 use crate::table::Row;
 use sheet::Range;
 
-const SPACE: u8 = 32;
+const SPACE: u8 = b' ';
 
-const MINUS: u8 = 45;
+const MINUS: u8 = b'-';
 
-const POINT: u8 = 46;
+const POINT: u8 = b'.';
 
-const BLANK: u8 = 95;
+const BLANK: u8 = b'_';
 
 // How many words a row has at most, and the bytes of each.
 pub const WORDS: usize = 6;
@@ -31,20 +31,24 @@ fn put_bytes(text: &[u8], buffer: &mut [u8], at: usize) -> usize
     lines::put_bytes(text, buffer, at)
 }
 
-// Puts what stands before the first space of a place of the table.
-pub fn put_token(slot: &[u8], buffer: &mut [u8], at: usize) -> usize
+// What stands before the first space of a place of the table.
+pub fn token(slot: &[u8]) -> &[u8]
+    ensures { (result.now ≡ token slot.now) × (length result.now ≤ length slot.now) }
+{
+    for (j, byte) in slot.iter().enumerate() {
+        if *byte == SPACE {
+            return &slot[..j];
+        }
+    }
+    slot
+}
+
+// Puts it.
+fn put_token(slot: &[u8], buffer: &mut [u8], at: usize) -> usize
     requires { at + length slot.now ≤ length buffer.old }
     ensures { Put buffer.old at (token slot.now) buffer.new result × (result ≤ at + length slot.now) }
 {
-    let mut j: usize = 0;
-    while j < slot.len() {
-        if slot[j] == SPACE {
-            return at + j;
-        }
-        buffer[at + j] = slot[j];
-        j += 1;
-    }
-    at + j
+    put_bytes(token(slot), buffer, at)
 }
 
 // Tenths: a point and one digit behind it.
@@ -54,7 +58,7 @@ fn put_tenths(figure: u32, buffer: &mut [u8], at: usize) -> usize
 {
     let point = lines::put_decimal((figure / 10) as u64, buffer, at);
     buffer[point] = POINT;
-    buffer[point + 1] = (48 + figure % 10) as u8;
+    buffer[point + 1] = b'0' + (figure % 10) as u8;
     point + 2
 }
 
@@ -65,8 +69,8 @@ fn put_hundredths(figure: u32, buffer: &mut [u8], at: usize) -> usize
 {
     let point = lines::put_decimal((figure / 100) as u64, buffer, at);
     buffer[point] = POINT;
-    buffer[point + 1] = (48 + figure / 10 % 10) as u8;
-    buffer[point + 2] = (48 + figure % 10) as u8;
+    buffer[point + 1] = b'0' + (figure / 10 % 10) as u8;
+    buffer[point + 2] = b'0' + (figure % 10) as u8;
     point + 3
 }
 
@@ -95,9 +99,7 @@ fn put_word(words: [u8; 96], figure: u32, buffer: &mut [u8], at: usize) -> usize
         return at;
     }
     let start = SLOT * figure as usize;
-    let end = start + SLOT;
-    let all = &words[..];
-    put_token(&all[start..end], buffer, at)
+    put_token(&words[start..start + SLOT], buffer, at)
 }
 
 // A figure as its row has it.
@@ -105,13 +107,11 @@ pub fn put_figure(row: Row, figure: u32, buffer: &mut [u8], at: usize) -> usize
     requires { at + 28 ≤ length buffer.old }
     ensures { Put buffer.old at (figure_text row figure) buffer.new result × (result ≤ at + 28) }
 {
-    let kind = row.1;
-    let words = row.3;
-    match kind {
+    match row.kind {
         Kind::Whole => lines::put_decimal(figure as u64, buffer, at),
         Kind::Tenths => put_tenths(figure, buffer, at),
         Kind::Hundredths => put_hundredths(figure, buffer, at),
-        Kind::Words => put_word(words, figure, buffer, at),
+        Kind::Words => put_word(row.words, figure, buffer, at),
         Kind::Level => put_level(figure, buffer, at),
     }
 }
@@ -133,14 +133,10 @@ pub fn put_unit(row: Row, figure: u32, buffer: &mut [u8], at: usize) -> usize
     requires { at + 17 ≤ length buffer.old }
     ensures { Put buffer.old at (unit_text row figure) buffer.new result × (result ≤ at + 17) }
 {
-    let kind = row.1;
-    let unit = row.2;
-    if let Kind::Level = kind {
-        if figure == 0 {
-            return at;
-        }
+    match row.kind {
+        Kind::Level if figure == 0 => at,
+        _ => put_behind(row.unit, buffer, at),
     }
-    put_behind(unit, buffer, at)
 }
 
 // A row's name and a space.
@@ -148,8 +144,7 @@ pub fn put_name(row: Row, buffer: &mut [u8], at: usize) -> usize
     requires { at + 17 ≤ length buffer.old }
     ensures { Put buffer.old at (name_text row) buffer.new result × (result ≤ at + 17) }
 {
-    let name = row.0;
-    let end = put_token(&name, buffer, at);
+    let end = put_token(&row.name, buffer, at);
     buffer[end] = SPACE;
     end + 1
 }
@@ -179,16 +174,13 @@ fn put_words(row: Row, buffer: &mut [u8], at: usize) -> usize
     requires { at + 420 ≤ length buffer.old }
     ensures { Put buffer.old at (words_from row 1 5) buffer.new result }
 {
-    let words = row.3;
     let mut end = at;
-    let mut j: usize = 1;
-    while j < WORDS {
-        if words[SLOT * j] == SPACE {
+    for j in 1..WORDS {
+        if row.words[SLOT * j] == SPACE {
             return end;
         }
         end = put_bytes(b" | ", buffer, end);
         end = put_row(row, j as u32, buffer, end);
-        j += 1;
     }
     end
 }
@@ -208,15 +200,16 @@ pub fn put_lines(row: Row, values: Range, buffer: &mut [u8], at: usize) -> usize
     requires { at + 512 ≤ length buffer.old }
     ensures { Put buffer.old at (lines_text row values) buffer.new result }
 {
-    let kind = row.1;
-    if let Kind::Words = kind {
-        let first = put_row(row, 0, buffer, at);
-        return put_words(row, buffer, first);
+    match row.kind {
+        Kind::Words => {
+            let first = put_row(row, 0, buffer, at);
+            put_words(row, buffer, first)
+        }
+        Kind::Level => {
+            let record = put_row(row, 0, buffer, at);
+            let given = put_bytes(b" | ", buffer, record);
+            put_span(row, 1, values.greatest, buffer, given)
+        }
+        _ => put_span(row, values.least, values.greatest, buffer, at),
     }
-    if let Kind::Level = kind {
-        let record = put_row(row, 0, buffer, at);
-        let given = put_bytes(b" | ", buffer, record);
-        return put_span(row, 1, values.greatest, buffer, given);
-    }
-    put_span(row, values.least, values.greatest, buffer, at)
 }

@@ -4,54 +4,16 @@ ghost use Rattle.typed.specs.Lines.{name_text};
 ghost use Rattle.typed.specs.Reading.{stands, same, in_number, digit_on, digits_read, below_zero, level_guess, word_stands, word_guess, guessed, entry_by};
 
 use crate::table::Row;
-use crate::{EntryFault, Kind, printing};
-
-const MINUS: u8 = 45;
-
-const POINT: u8 = 46;
-
-const ZERO: u8 = 48;
-
-const NINE: u8 = 57;
+use crate::{EntryFault, Kind, begins_with, printing};
 
 // A number from here on takes no further digit.
-const CAP: u32 = 100000000;
-
-// Whether a text stands at the front of bytes.
-pub fn front_stands(text: &[u8], bytes: &[u8]) -> bool
-    ensures { result ≡ stands text.now bytes.now }
-{
-    if bytes.len() < text.len() {
-        return false;
-    }
-    let mut j: usize = 0;
-    while j < text.len() {
-        if text[j] != bytes[j] {
-            return false;
-        }
-        j += 1;
-    }
-    true
-}
-
-// Whether bytes are a text.
-fn whole_stands(text: &[u8], bytes: &[u8]) -> bool
-    ensures { result ≡ same text.now bytes.now }
-{
-    if text.len() != bytes.len() {
-        return false;
-    }
-    front_stands(text, bytes)
-}
+const CAP: u32 = 100_000_000;
 
 // Whether a byte may stand in a number: a point, a digit or the stroke between them.
 fn in_number(byte: u8) -> bool
     ensures { result ≡ in_number byte }
 {
-    if byte < POINT {
-        return false;
-    }
-    byte <= NINE
+    matches!(byte, b'.'..=b'9')
 }
 
 // A number with one more digit; points are passed over.
@@ -59,28 +21,25 @@ fn digit_on(value: u32, byte: u8) -> u32
     requires { (value < 100000000) × (byte ≤ 57) }
     ensures { (result ≡ digit_on value byte) × (result < 1000000000) }
 {
-    if byte < ZERO {
+    if byte < b'0' {
         return value;
     }
-    10 * value + (byte - ZERO) as u32
+    10 * value + u32::from(byte - b'0')
 }
 
-// The number that the digits from a place on mean; 0 where they are too many.
-fn digits_read(bytes: &[u8], from: usize) -> u32
-    ensures { (result ≡ digits_read 0 (drop from bytes.now)) × (result < 1000000000) }
+// The number that the digits at the front mean; 0 where they are too many.
+fn digits_read(bytes: &[u8]) -> u32
+    ensures { (result ≡ digits_read 0 bytes.now) × (result < 1000000000) }
 {
     let mut value: u32 = 0;
-    let mut at = from;
-    while at < bytes.len() {
-        let byte = bytes[at];
-        if !in_number(byte) {
+    for byte in bytes {
+        if !in_number(*byte) {
             return value;
         }
         if CAP <= value {
             return 0;
         }
-        value = digit_on(value, byte);
-        at += 1;
+        value = digit_on(value, *byte);
     }
     value
 }
@@ -99,13 +58,13 @@ fn below_zero(depth: u32) -> u32
 fn level_guess(bytes: &[u8]) -> u32
     ensures { result ≡ level_guess bytes.now }
 {
-    if !front_stands(b"given ", bytes) {
+    if !begins_with(bytes, b"given ") {
         return 0;
     }
-    if front_stands(b"given -", bytes) {
-        return below_zero(digits_read(bytes, 7));
+    if begins_with(bytes, b"given -") {
+        return below_zero(digits_read(&bytes[7..]));
     }
-    digits_read(bytes, 6) + printing::LEVEL_ZERO
+    digits_read(&bytes[6..]) + printing::LEVEL_ZERO
 }
 
 // Whether a word stands at the front of bytes.
@@ -114,26 +73,21 @@ fn word_stands(words: [u8; 96], j: usize, bytes: &[u8]) -> bool
     ensures { result ≡ word_stands words bytes.now j }
 {
     let start = printing::SLOT * j;
-    let end = start + printing::SLOT;
-    let all = &words[..];
-    let mut word = [0u8; 16];
-    let length = printing::put_token(&all[start..end], &mut word, 0);
-    if length == 0 {
+    let word = printing::token(&words[start..start + printing::SLOT]);
+    if word.is_empty() {
         return false;
     }
-    front_stands(&word[0..length], bytes)
+    begins_with(bytes, word)
 }
 
 // The code of the first word that stands there; 0 where none does.
 fn word_guess(words: [u8; 96], bytes: &[u8]) -> u32
     ensures { result ≡ word_guess words bytes.now }
 {
-    let mut j: usize = 0;
-    while j < printing::WORDS {
+    for j in 0..printing::WORDS {
         if word_stands(words, j, bytes) {
             return j as u32;
         }
-        j += 1;
     }
     0
 }
@@ -142,12 +96,10 @@ fn word_guess(words: [u8; 96], bytes: &[u8]) -> u32
 fn guess(row: Row, bytes: &[u8]) -> u32
     ensures { result ≡ guessed row bytes.now }
 {
-    let kind = row.1;
-    let words = row.3;
-    match kind {
-        Kind::Words => word_guess(words, bytes),
+    match row.kind {
+        Kind::Words => word_guess(row.words, bytes),
         Kind::Level => level_guess(bytes),
-        Kind::Whole | Kind::Tenths | Kind::Hundredths => digits_read(bytes, 0),
+        Kind::Whole | Kind::Tenths | Kind::Hundredths => digits_read(bytes),
     }
 }
 
@@ -157,7 +109,7 @@ pub fn has_name(row: Row, line: &[u8]) -> bool
 {
     let mut name = [0u8; 32];
     let end = printing::put_name(row, &mut name, 0);
-    front_stands(&name[0..end], line)
+    begins_with(line, &name[..end])
 }
 
 // What a line says in the place of a row.
@@ -166,16 +118,16 @@ pub fn read_row(row: Row, line: &[u8]) -> Result<u32, EntryFault>
 {
     let mut printed = [0u8; 80];
     let name = printing::put_name(row, &mut printed, 0);
-    if !front_stands(&printed[0..name], line) {
+    if !begins_with(line, &printed[..name]) {
         return Err(EntryFault::NoName);
     }
     let figure = guess(row, &line[name..]);
     let front = printing::put_figure(row, figure, &mut printed, name);
-    if !front_stands(&printed[0..front], line) {
+    if !begins_with(line, &printed[..front]) {
         return Err(EntryFault::NoFigure);
     }
     let end = printing::put_unit(row, figure, &mut printed, front);
-    if !whole_stands(&printed[0..end], line) {
+    if &printed[..end] != line {
         return Err(EntryFault::NoUnit);
     }
     Ok(figure)

@@ -7,209 +7,219 @@ use sheet::Range;
 
 // A name, how the figure is typed, the unit, and the words of its codes, 16 bytes each. What is shorter ends in spaces.
 #[derive(Clone, Copy)]
-pub struct Row(pub [u8; 16], pub Kind, pub [u8; 16], pub [u8; 96]);
+pub struct Row {
+    pub name: [u8; 16],
+    pub kind: Kind,
+    pub unit: [u8; 16],
+    pub words: [u8; 96],
+}
 
 const NONE: [u8; 16] = *b"                ";
 
-const NO_WORDS: [u8; 96] = [32; 96];
+const NO_WORDS: [u8; 96] = [b' '; 96];
 
-const NO_ROW: Row = Row(NONE, Kind::Whole, NONE, NO_WORDS);
+const NO_ROW: Row = Row {
+    name: NONE,
+    kind: Kind::Whole,
+    unit: NONE,
+    words: NO_WORDS,
+};
 
-const DEADWEIGHT: Row = Row(
-    *b"deadweight      ",
-    Kind::Whole,
-    *b"t               ",
-    NO_WORDS,
-);
+const DEADWEIGHT: Row = Row {
+    name: *b"deadweight      ",
+    kind: Kind::Whole,
+    unit: *b"t               ",
+    words: NO_WORDS,
+};
 
-const DRAFT: Row = Row(
-    *b"draft           ",
-    Kind::Whole,
-    *b"cm              ",
-    NO_WORDS,
-);
+const DRAFT: Row = Row {
+    name: *b"draft           ",
+    kind: Kind::Whole,
+    unit: *b"cm              ",
+    words: NO_WORDS,
+};
 
-const LENGTH: Row = Row(
-    *b"length          ",
-    Kind::Whole,
-    *b"cm              ",
-    NO_WORDS,
-);
+const LENGTH: Row = Row {
+    name: *b"length          ",
+    kind: Kind::Whole,
+    unit: *b"cm              ",
+    words: NO_WORDS,
+};
 
-const BEAM: Row = Row(
-    *b"beam            ",
-    Kind::Whole,
-    *b"cm              ",
-    NO_WORDS,
-);
+const BEAM: Row = Row {
+    name: *b"beam            ",
+    kind: Kind::Whole,
+    unit: *b"cm              ",
+    words: NO_WORDS,
+};
 
-const SPEED: Row = Row(
-    *b"speed           ",
-    Kind::Whole,
-    *b"kn              ",
-    NO_WORDS,
-);
+const SPEED: Row = Row {
+    name: *b"speed           ",
+    kind: Kind::Whole,
+    unit: *b"kn              ",
+    words: NO_WORDS,
+};
 
-const NATURAL_BED: Row = Row(
-    *b"natural-bed     ",
-    Kind::Whole,
-    *b"cm              ",
-    NO_WORDS,
-);
+const NATURAL_BED: Row = Row {
+    name: *b"natural-bed     ",
+    kind: Kind::Whole,
+    unit: *b"cm              ",
+    words: NO_WORDS,
+};
 
-const SOIL: Row = Row(
-    *b"soil            ",
-    Kind::Words,
-    NONE,
-    *b"mud             deposited       dense           grade-3                                         ",
-);
+const SOIL: Row = Row {
+    name: *b"soil            ",
+    kind: Kind::Words,
+    unit: NONE,
+    words: *b"mud             deposited       dense           grade-3                                         ",
+};
 
-const WAVE_ALLOWANCE: Row = Row(
-    *b"wave-allowance  ",
-    Kind::Whole,
-    *b"cm              ",
-    NO_WORDS,
-);
+const WAVE_ALLOWANCE: Row = Row {
+    name: *b"wave-allowance  ",
+    kind: Kind::Whole,
+    unit: *b"cm              ",
+    words: NO_WORDS,
+};
 
-const SILTING: Row = Row(
-    *b"silting         ",
-    Kind::Whole,
-    *b"per-mille/yr    ",
-    NO_WORDS,
-);
+const SILTING: Row = Row {
+    name: *b"silting         ",
+    kind: Kind::Whole,
+    unit: *b"per-mille/yr    ",
+    words: NO_WORDS,
+};
 
-const INTERVAL: Row = Row(
-    *b"interval        ",
-    Kind::Words,
-    *b"yr              ",
-    *b"0.25            0.33            0.50            1.00            2.00            3.00            ",
-);
+const INTERVAL: Row = Row {
+    name: *b"interval        ",
+    kind: Kind::Words,
+    unit: *b"yr              ",
+    words: *b"0.25            0.33            0.50            1.00            2.00            3.00            ",
+};
 
-const LANES: Row = Row(
-    *b"lanes           ",
-    Kind::Words,
-    NONE,
-    *b"by-traffic      one             two                                                             ",
-);
+const LANES: Row = Row {
+    name: *b"lanes           ",
+    kind: Kind::Words,
+    unit: NONE,
+    words: *b"by-traffic      one             two                                                             ",
+};
 
-const CHANNEL_LENGTH: Row = Row(
-    *b"channel-length  ",
-    Kind::Whole,
-    *b"m               ",
-    NO_WORDS,
-);
+const CHANNEL_LENGTH: Row = Row {
+    name: *b"channel-length  ",
+    kind: Kind::Whole,
+    unit: *b"m               ",
+    words: NO_WORDS,
+};
 
-const SHIPS: Row = Row(
-    *b"ships           ",
-    Kind::Hundredths,
-    *b"/day            ",
-    NO_WORDS,
-);
+const SHIPS: Row = Row {
+    name: *b"ships           ",
+    kind: Kind::Hundredths,
+    unit: *b"/day            ",
+    words: NO_WORDS,
+};
 
-const WATER: Row = Row(
-    *b"water           ",
-    Kind::Words,
-    NONE,
-    *b"open            sheltered                                                                       ",
-);
+const WATER: Row = Row {
+    name: *b"water           ",
+    kind: Kind::Words,
+    unit: NONE,
+    words: *b"open            sheltered                                                                       ",
+};
 
-const HANDLING: Row = Row(
-    *b"handling        ",
-    Kind::Words,
-    NONE,
-    *b"good            fair            poor                                                            ",
-);
+const HANDLING: Row = Row {
+    name: *b"handling        ",
+    kind: Kind::Words,
+    unit: NONE,
+    words: *b"good            fair            poor                                                            ",
+};
 
-const CROSS_WIND: Row = Row(
-    *b"cross-wind      ",
-    Kind::Whole,
-    *b"kn              ",
-    NO_WORDS,
-);
+const CROSS_WIND: Row = Row {
+    name: *b"cross-wind      ",
+    kind: Kind::Whole,
+    unit: *b"kn              ",
+    words: NO_WORDS,
+};
 
-const CROSS_CURRENT: Row = Row(
-    *b"cross-current   ",
-    Kind::Tenths,
-    *b"kn              ",
-    NO_WORDS,
-);
+const CROSS_CURRENT: Row = Row {
+    name: *b"cross-current   ",
+    kind: Kind::Tenths,
+    unit: *b"kn              ",
+    words: NO_WORDS,
+};
 
-const ALONG_CURRENT: Row = Row(
-    *b"along-current   ",
-    Kind::Tenths,
-    *b"kn              ",
-    NO_WORDS,
-);
+const ALONG_CURRENT: Row = Row {
+    name: *b"along-current   ",
+    kind: Kind::Tenths,
+    unit: *b"kn              ",
+    words: NO_WORDS,
+};
 
-const WAVE_HEIGHT: Row = Row(
-    *b"wave-height     ",
-    Kind::Whole,
-    *b"cm              ",
-    NO_WORDS,
-);
+const WAVE_HEIGHT: Row = Row {
+    name: *b"wave-height     ",
+    kind: Kind::Whole,
+    unit: *b"cm              ",
+    words: NO_WORDS,
+};
 
-const AIDS: Row = Row(
-    *b"aids            ",
-    Kind::Words,
-    NONE,
-    *b"complete        good            middle          poor                                            ",
-);
+const AIDS: Row = Row {
+    name: *b"aids            ",
+    kind: Kind::Words,
+    unit: NONE,
+    words: *b"complete        good            middle          poor                                            ",
+};
 
-const BOTTOM: Row = Row(
-    *b"bottom          ",
-    Kind::Words,
-    NONE,
-    *b"soft            hard-smooth     hard-rough                                                      ",
-);
+const BOTTOM: Row = Row {
+    name: *b"bottom          ",
+    kind: Kind::Words,
+    unit: NONE,
+    words: *b"soft            hard-smooth     hard-rough                                                      ",
+};
 
-const CARGO: Row = Row(
-    *b"cargo           ",
-    Kind::Words,
-    NONE,
-    *b"low-danger      middle-danger   high-danger                                                     ",
-);
+const CARGO: Row = Row {
+    name: *b"cargo           ",
+    kind: Kind::Words,
+    unit: NONE,
+    words: *b"low-danger      middle-danger   high-danger                                                     ",
+};
 
-const LEFT_BANK: Row = Row(
-    *b"left-bank       ",
-    Kind::Words,
-    NONE,
-    *b"sloping         steep                                                                           ",
-);
+const LEFT_BANK: Row = Row {
+    name: *b"left-bank       ",
+    kind: Kind::Words,
+    unit: NONE,
+    words: *b"sloping         steep                                                                           ",
+};
 
-const RIGHT_BANK: Row = Row(
-    *b"right-bank      ",
-    Kind::Words,
-    NONE,
-    *b"sloping         steep                                                                           ",
-);
+const RIGHT_BANK: Row = Row {
+    name: *b"right-bank      ",
+    kind: Kind::Words,
+    unit: NONE,
+    words: *b"sloping         steep                                                                           ",
+};
 
-const TURN: Row = Row(
-    *b"turn            ",
-    Kind::Whole,
-    *b"deg             ",
-    NO_WORDS,
-);
+const TURN: Row = Row {
+    name: *b"turn            ",
+    kind: Kind::Whole,
+    unit: *b"deg             ",
+    words: NO_WORDS,
+};
 
-const RADIUS: Row = Row(
-    *b"radius          ",
-    Kind::Whole,
-    *b"m               ",
-    NO_WORDS,
-);
+const RADIUS: Row = Row {
+    name: *b"radius          ",
+    kind: Kind::Whole,
+    unit: *b"m               ",
+    words: NO_WORDS,
+};
 
-const LEVEL_ROW: Row = Row(
-    *b"level           ",
-    Kind::Level,
-    *b"cm              ",
-    NO_WORDS,
-);
+const LEVEL_ROW: Row = Row {
+    name: *b"level           ",
+    kind: Kind::Level,
+    unit: *b"cm              ",
+    words: NO_WORDS,
+};
 
-const SIDE_SLOPE: Row = Row(
-    *b"side-slope      ",
-    Kind::Whole,
-    *b"m/m             ",
-    NO_WORDS,
-);
+const SIDE_SLOPE: Row = Row {
+    name: *b"side-slope      ",
+    kind: Kind::Whole,
+    unit: *b"m/m             ",
+    words: NO_WORDS,
+};
 
 // The row after the first i; past them one with no name.
 pub fn row_at(i: usize) -> Row

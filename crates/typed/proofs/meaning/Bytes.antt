@@ -66,7 +66,7 @@ plain_each (b ∷ s) t =
     )
 
 plain_row : ℕ → Bool
-plain_row i = plain (name_text (row_at i)) && (plain (row_at i).2 && plain (row_at i).3)
+plain_row i = plain (name_text (row_at i)) && (plain (row_at i).unit && plain (row_at i).words)
 
 plain_test : T (every count plain_row)
 unfolding plain_row plain name_text token row_at rows flatten
@@ -80,13 +80,13 @@ module _ (i : ℕ) (h : i < count) where
   unfolding plain_row
   name_plain = plain_each (name_text (row_at i)) (both_left (plain (name_text (row_at i))) _ tested)
 
-  unit_plain : Each Plain (row_at i).2
+  unit_plain : Each Plain (row_at i).unit
   unfolding plain_row
-  unit_plain = plain_each (row_at i).2 (both_left (plain (row_at i).2) _ (both_right (plain (name_text (row_at i))) _ tested))
+  unit_plain = plain_each (row_at i).unit (both_left (plain (row_at i).unit) _ (both_right (plain (name_text (row_at i))) _ tested))
 
-  words_plain : Each Plain (row_at i).3
+  words_plain : Each Plain (row_at i).words
   unfolding plain_row
-  words_plain = plain_each (row_at i).3 (both_right (plain (row_at i).2) _ (both_right (plain (name_text (row_at i))) _ tested))
+  words_plain = plain_each (row_at i).words (both_right (plain (row_at i).unit) _ (both_right (plain (name_text (row_at i))) _ tested))
 
 -- the digits
 count_plain : (n : ℕ) → Each Plain (count_text n)
@@ -159,8 +159,8 @@ line_plain i n h =
     let r = row_at i in
     rw (line_parts i n)
     (each_append Plain (name_text r) (rest i n) (name_plain i h)
-    (each_append Plain (figure_by r.1 r.3 n) (unit_by r.1 r.2 n) (figure_plain r.1 r.3 n (words_plain i h))
-    (unit_by_plain r.1 r.2 n (unit_plain i h))))
+    (each_append Plain (figure_by r.kind r.words n) (unit_by r.kind r.unit n) (figure_plain r.kind r.words n (words_plain i h))
+    (unit_by_plain r.kind r.unit n (unit_plain i h))))
 
 pub no_control : (i n : ℕ) → i < count → Each (λ (b : ℕ). space ≤ b) (line_text i n)
 no_control i n h = each_implied Plain (λ (b : ℕ). space ≤ b) (λ b p. p.0) (line_text i n) (line_plain i n h)
@@ -242,7 +242,7 @@ figure_most Words words n h =
 figure_most Level words n h = level_most n h
 
 short_row : ℕ → Bool
-short_row i = (length (name_text (row_at i)) ≤ᵇ 17) && (length (row_at i).2 ≤ᵇ 16)
+short_row i = (length (name_text (row_at i)) ≤ᵇ 17) && (length (row_at i).unit ≤ᵇ 16)
 
 short_test : T (every count short_row)
 unfolding short_row name_text token row_at rows
@@ -254,8 +254,8 @@ line_most i n h l =
     let r = row_at i in
     let t = every_at count short_row short_test i h in
     let name = leb→le (length (name_text r)) 17 (both_left (length (name_text r) ≤ᵇ 17) _ t) in
-    let unit = leb→le (length r.2) 16 (both_right (length (name_text r) ≤ᵇ 17) _ t) in
-    rw (line_parts i n) (simp length-append (omega (arith, figure_most r.1 r.3 n l, unit_most r.1 r.2 n)))
+    let unit = leb→le (length r.unit) 16 (both_right (length (name_text r) ≤ᵇ 17) _ t) in
+    rw (line_parts i n) (simp length-append (omega (arith, figure_most r.kind r.words n l, unit_most r.kind r.unit n)))
 
 pub line_fits : (i n : ℕ) → i < count → n < 2 ^ 32 → length (line_text i n) ≤ line_bytes
 line_fits i n h l = omega (arith, line_most i n h (omega arith))

@@ -1,6 +1,6 @@
 -- The line of a figure says that figure, so no two figures of a row have one line.
 -- Each row is tested by computing: its numbers are short enough to be read, and its words can be told apart.
-use Rattle.std.specs.Prelude.{Ok, Err}
+use Rattle.std.specs.Prelude.{Some, Ok, Err}
 use mathlib.Core.Path.{◌≡◌, refl, ap, sym, ◌∙◌}
 use mathlib.Core.Bool.{Bool, true, false, not, ◌&&◌}
 use mathlib.Core.List.{List, ◌++◌, flatten}
@@ -49,19 +49,19 @@ figure_back Words words unit most n t h =
     word_back words n (unit_by Words unit n) each (omega arith)
 figure_back Level words unit most n t h = level_back n unit (below n most t h)
 
-module _ (i most n : ℕ) (t : T (tells (row_at i).1 (row_at i).3 most)) (h : n ≤ most) where
+module _ (i most n : ℕ) (t : T (tells (row_at i).kind (row_at i).words most)) (h : n ≤ most) where
   guess_back : guess_at i (line_text i n) ≡ n
   unfolding guessed figure_text unit_text
   guess_back =
       let r = row_at i in
-      rw (line_parts i n, drop-append_seam (name_text r) (rest i n)) (figure_back r.1 r.3 r.2 most n t h)
+      rw (line_parts i n, drop-append_seam (name_text r) (rest i n)) (figure_back r.kind r.words r.unit most n t h)
 
   entry_back : entry_of i (line_text i n) ≡ Ok n
   entry_back = (figure_exactly i (line_text i n) n).1 (sym guess_back, refl)
 
 -- the rows' numbers and words up to their greatest figures
 row_tells : ℕ → Bool
-row_tells i = tells (row_at i).1 (row_at i).3 (values_of i).greatest
+row_tells i = tells (row_at i).kind (row_at i).words (values_of i).greatest
 
 rows_test : T (every count row_tells)
 unfolding row_tells row_at rows flatten values_of range_of least greatest field_at fields word_text token differs
@@ -79,8 +79,8 @@ number_tells Hundredths words n d h = lt→ltb n readable h
 number_tells Words words n d h = absurd (d refl)
 number_tells Level words n d h = lt→ltb n readable h
 
-pub complete_number : (i n : ℕ) → (row_at i).1 ≢ Words → n < readable → entry_of i (line_text i n) ≡ Ok n
-complete_number i n d h = entry_back i n n (number_tells (row_at i).1 (row_at i).3 n d h) (omega arith)
+pub complete_number : (i n : ℕ) → (row_at i).kind ≢ Words → n < readable → entry_of i (line_text i n) ≡ Ok n
+complete_number i n d h = entry_back i n n (number_tells (row_at i).kind (row_at i).words n d h) (omega arith)
 
 pub exactly : (i n : ℕ) (line : List ℕ) → i < count → n ≤ (values_of i).greatest → (entry_of i line ≡ Ok n) ↔ (line ≡ line_text i n)
 exactly i n line h l = (sound i line n, λ (e : line ≡ line_text i n). ap (entry_of i) e ∙ complete i n h l)
@@ -94,7 +94,8 @@ one_figure i m n h lm ln e =
 pub one_line : (i j m n : ℕ) → i < count → j < count → m ≤ (values_of i).greatest → n ≤ (values_of j).greatest → line_text i m ≡ line_text j n
     → (i ≡ j) × (m ≡ n)
 one_line i j m n hi hj lm ln e =
-    let s : i ≡ j = sym (line_row i m hi) ∙ ap row_named e ∙ line_row j n hj in
+    let named : Some i ≡ Some j = sym (line_row i m hi) ∙ ap row_named e ∙ line_row j n hj in
+    let s : i ≡ j = cc in
     (s, one_figure i m n hi lm (rw s ln) (e ∙ ap (λ (k : ℕ). line_text k n) (sym s)))
 
 -- a row left as in the empty form says no figure

@@ -1,11 +1,11 @@
 -- The names of the rows: no two stand at the front of one line, so a line has one row's name, and no line of a row begins a sheet.
 -- One test of each rule is computed over the table and carried to each row.
-use Rattle.std.specs.Prelude.{Err}
-use mathlib.Core.Path.{◌≡◌, refl, ap, sym, ◌∙◌}
+use Rattle.std.specs.Prelude.{Err, Some, None}
+use mathlib.Core.Path.{◌≡◌, refl, ap, sym}
 use mathlib.Core.Bool.{Bool, true, false, not}
 use mathlib.Core.List.{List, [], ◌∷◌, ◌++◌, append_assoc}
 use mathlib.Core.Logic.{◌↔◌, ◌≢◌}
-use Prim.Native.Nat.{ℕ, zero, suc, ◌+◌, ◌-◌, ◌≤◌, ◌<◌}
+use Prim.Native.Nat.{ℕ, zero, suc, ◌+◌, ◌-◌, ◌<◌}
 use native.Mathlib.Omega.{arith}
 use borrow.Author.Tests.{eqb-true, eqb-false, ne_eqb}
 use lib.Dec.{T}
@@ -13,6 +13,7 @@ use Rattle.laws.specs.Choice.{ifᵇ◌then◌else◌, ◌=ᵇ◌}
 use Rattle.laws.specs.Every.{every}
 use Rattle.laws.specs.First.{first_of}
 use Rattle.laws.proofs.Every.{where_true, holds_there, every_at}
+use Rattle.laws.proofs.Never.{never}
 use Rattle.laws.proofs.First.{first_is, none_is, is_first, is_none}
 use Rattle.lines.specs.Lines.{space}
 use Rattle.typed.specs.Rows.{bytes_of, count, rows, row_at}
@@ -61,14 +62,15 @@ positive : (f i : ℕ) → f ≢ 0 → f - 1 ≡ i → f ≡ i + 1
 positive zero i some e = absurd (some refl)
 positive (suc f) i some e = omega arith
 
-pub named_row : (line : List ℕ) (i : ℕ) → i < count → named line i ≡ true → row_named line ≡ i
+pub named_row : (line : List ℕ) (i : ℕ) → i < count → named line i ≡ true → row_named line ≡ Some i
 unfolding row_named
 named_row line i h e =
     let none : (j : ℕ) → j < i → named line j ≡ false = λ j l. one_name line i j h (omega arith) (λ (s : i ≡ j). omega arith) e in
     let first : first_of (named line) count ≡ i + 1 = first_is (named line) count i (record { within = h; here = e; none_before = none }) in
-    rw (first, ne_eqb (i + 1) 0 (λ (s : i + 1 ≡ 0). omega arith)) (omega arith)
+    let back : i + 1 - 1 ≡ i = omega arith in
+    rw (first, ne_eqb (i + 1) 0 (λ (s : i + 1 ≡ 0). omega arith), back)
 
-pub line_row : (i n : ℕ) → i < count → row_named (line_text i n) ≡ i
+pub line_row : (i n : ℕ) → i < count → row_named (line_text i n) ≡ Some i
 line_row i n h = named_row (line_text i n) i h (own_name i n)
 
 -- what the answer says of the names
@@ -76,55 +78,46 @@ module _ (line : List ℕ) where
   abbrev found : ℕ
   found = first_of (named line) count
 
-  pub has_its_name : (i : ℕ) → i < count → row_named line ≡ i → named line i ≡ true
+  found_at : (i : ℕ) → row_named line ≡ Some i → found ≡ i + 1
   unfolding row_named
-  has_its_name i h e = go (found =ᵇ 0) refl e
+  found_at i e = go (found =ᵇ 0) refl e
     where
-      go : (b : Bool) → (found =ᵇ 0) ≡ b → (ifᵇ b then count else found - 1) ≡ i → named line i ≡ true
-      go true p e = absurd (omega arith)
-      go false p e =
-          let some : found ≢ 0 = eqb-false found 0 p in
-          let first : found ≡ i + 1 = positive found i some e in
-          (is_first (named line) count i first).here
+      go : (b : Bool) → (found =ᵇ 0) ≡ b → (ifᵇ b then None else Some (found - 1)) ≡ Some i → found ≡ i + 1
+      go true p e = never (cc)
+      go false p e = let before : found - 1 ≡ i = cc in positive found i (eqb-false found 0 p) before
 
-  pub has_no_name : row_named line ≡ count → (i : ℕ) → i < count → named line i ≡ false
+  pub has_its_name : (i : ℕ) → row_named line ≡ Some i → named line i ≡ true
+  has_its_name i e = (is_first (named line) count i (found_at i e)).here
+
+  pub row_within : (i : ℕ) → row_named line ≡ Some i → i < count
+  row_within i e = (is_first (named line) count i (found_at i e)).within
+
+  pub has_no_name : row_named line ≡ None → (i : ℕ) → i < count → named line i ≡ false
   unfolding row_named
   has_no_name e = go (found =ᵇ 0) refl e
     where
-      go : (b : Bool) → (found =ᵇ 0) ≡ b → (ifᵇ b then count else found - 1) ≡ count → (i : ℕ) → i < count → named line i ≡ false
+      go : (b : Bool) → (found =ᵇ 0) ≡ b → (ifᵇ b then None else Some (found - 1)) ≡ None → (i : ℕ) → i < count → named line i ≡ false
       go true p e = is_none (named line) count (eqb-true found 0 p)
-      go false p e =
-          let some : found ≢ 0 = eqb-false found 0 p in
-          let past = (is_first (named line) count count (positive found count some e)).within in
-          λ i h. absurd (omega arith)
+      go false p e = never (cc)
 
-  pub row_within : row_named line ≤ count
-  unfolding row_named
-  row_within = go found refl (found =ᵇ 0) refl
-    where
-      go : (f : ℕ) → found ≡ f → (b : Bool) → (found =ᵇ 0) ≡ b → (ifᵇ b then count else found - 1) ≤ count
-      go f e true p = omega arith
-      go zero e false p = omega arith
-      go (suc f) e false p = omega (arith, (is_first (named line) count f (e ∙ omega arith)).within)
-
-  no_row : ((i : ℕ) → i < count → named line i ≡ false) → row_named line ≡ count
+  no_row : ((i : ℕ) → i < count → named line i ≡ false) → row_named line ≡ None
   unfolding row_named
   no_row none = rw (none_is (named line) count none)
 
-  pub row_exactly : (i : ℕ) → i < count → (row_named line ≡ i) ↔ (named line i ≡ true)
-  row_exactly i h = (has_its_name i h, named_row line i h)
+  pub row_exactly : (i : ℕ) → i < count → (row_named line ≡ Some i) ↔ (named line i ≡ true)
+  row_exactly i h = (has_its_name i, named_row line i h)
 
-  pub no_row_exactly : (row_named line ≡ count) ↔ ((i : ℕ) → i < count → named line i ≡ false)
+  pub no_row_exactly : (row_named line ≡ None) ↔ ((i : ℕ) → i < count → named line i ≡ false)
   no_row_exactly = (has_no_name, no_row)
 
 -- so no name is told of a line exactly when another row, or none, is its
-pub no_name_row : (i : ℕ) (line : List ℕ) → i < count → (entry_of i line ≡ (Err NoName)) ↔ (row_named line ≢ i)
+pub no_name_row : (i : ℕ) (line : List ℕ) → i < count → (entry_of i line ≡ (Err NoName)) ↔ (row_named line ≢ Some i)
 no_name_row i line h = (λ e r. other ((no_name_exactly i line).0 e) ((row_exactly line i h).0 r), λ d. go (named line i) refl d)
   where
     other : named line i ≡ false → named line i ≡ true → ⊥
     other p q = let z : ◌≡◌ {A = ℕ} 0 1 = cc in omega arith
 
-    go : (b : Bool) → named line i ≡ b → row_named line ≢ i → entry_of i line ≡ (Err NoName)
+    go : (b : Bool) → named line i ≡ b → row_named line ≢ Some i → entry_of i line ≡ (Err NoName)
     go true e d = absurd (d (named_row line i h e))
     go false e d = (no_name_exactly i line).1 e
 

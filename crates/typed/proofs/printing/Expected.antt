@@ -15,10 +15,10 @@ span_by Words r values a b = absurd (a refl)
 span_by Level r values a b = absurd (b refl)
 
 module _ (r : Row) (values : Range) where
-  pub lines_by_lem : {kind : Kind} → r.1 ≡ kind → lines_text r values ≡ lines_by kind r values
+  pub lines_by_lem : {kind : Kind} → r.kind ≡ kind → lines_text r values ≡ lines_by kind r values
   unfolding lines_text
   lines_by_lem e = rw e
 
-  pub lines_span : (r.1 ≡ Words → ⊥) → (r.1 ≡ Level → ⊥) → lines_text r values ≡ span_text r values.least values.greatest
+  pub lines_span : (r.kind ≡ Words → ⊥) → (r.kind ≡ Level → ⊥) → lines_text r values ≡ span_text r values.least values.greatest
   unfolding lines_text
-  lines_span = span_by r.1 r values
+  lines_span = span_by r.kind r values

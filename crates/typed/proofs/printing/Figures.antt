@@ -67,6 +67,6 @@ module _ (words : List ℕ) (n : ℕ) where
   word_end at h = omega (arith, length-take (16 * n + 16 - 16 * n) (drop (16 * n) words))
 
 -- a figure by its row's kind
-pub figure_by_lem : (r : Row) (n : ℕ) {kind : Kind} → r.1 ≡ kind → figure_text r n ≡ figure_by kind r.3 n
+pub figure_by_lem : (r : Row) (n : ℕ) {kind : Kind} → r.kind ≡ kind → figure_text r n ≡ figure_by kind r.words n
 unfolding figure_text
 figure_by_lem r n e = rw e

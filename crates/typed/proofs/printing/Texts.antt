@@ -3,26 +3,11 @@ use mathlib.Core.Path.{◌≡◌, ◌∙◌}
 use mathlib.Core.List.{List, ◌++◌, append_assoc, append-nil}
 use Prim.Native.Nat.{ℕ, ◌+◌, ◌≤◌, ◌<◌}
 use native.Mathlib.Numerals.{add-one}
-use native.Mathlib.Omega.{arith}
 use borrow.Author.Tests.{eq-eqb, ne_eqb}
-use lib.ListN.{length, take, drop, get_or, set, drop_of_length-le}
+use lib.ListN.{length, take, drop, get_or, drop_of_length-le}
 use lib.Seq.{take-suc, drop-cons}
-use Rattle.lines.specs.Lines.{space, Put}
-use Rattle.lines.proofs.putting.Placing.{put_none, then_byte}
+use Rattle.lines.specs.Lines.{space}
 use Rattle.typed.specs.Lines.{token}
-
--- the first j bytes of a text stand at a place
-abbrev pub Copied : List ℕ → ℕ → List ℕ → ℕ → List ℕ → Type 0
-Copied buffer at text j later = Put buffer at (take j text) later (at + j)
-
-pub none_copied : {buffer : List ℕ} (text : List ℕ) {at : ℕ} → Copied buffer at text 0 buffer
-none_copied text {at} = let e : at + 0 ≡ at = omega arith in rw e put_none
-
-module _ {buffer : List ℕ} {at : ℕ} (text : List ℕ) (j : ℕ) {later : List ℕ} (p : Copied buffer at text j later) where
-  pub one_copied : j < length text → at + j < length buffer → Copied buffer at text (j + 1) (set later (at + j) (get_or text j 0))
-  one_copied h fits =
-      let e : at + (j + 1) ≡ at + j + 1 = omega arith in
-      rw (e, add-one j, take-suc text j 0 h) (then_byte (get_or text j 0) p fits)
 
 -- no space stands among the first j bytes of a place of the table
 abbrev pub Inside : List ℕ → ℕ → Type 0

@@ -36,14 +36,14 @@ unit_plain Level unit n other = absurd (other refl)
 
 -- a level off the record has no unit; another figure has its row's, and so has a row of another kind
 module _ (r : Row) (n : ℕ) where
-  pub record_unit : r.1 ≡ Level → n ≡ 0 → unit_text r n ≡ []
+  pub record_unit : r.kind ≡ Level → n ≡ 0 → unit_text r n ≡ []
   unfolding unit_text
   record_unit e z = rw (e, z)
 
-  pub given_unit : (n ≡ 0 → ⊥) → unit_text r n ≡ behind r.2
+  pub given_unit : (n ≡ 0 → ⊥) → unit_text r n ≡ behind r.unit
   unfolding unit_text
-  given_unit other = unit_some r.1 r.2 n other
+  given_unit other = unit_some r.kind r.unit n other
 
-  pub plain_unit : (r.1 ≡ Level → ⊥) → unit_text r n ≡ behind r.2
+  pub plain_unit : (r.kind ≡ Level → ⊥) → unit_text r n ≡ behind r.unit
   unfolding unit_text
-  plain_unit other = unit_plain r.1 r.2 n other
+  plain_unit other = unit_plain r.kind r.unit n other

@@ -21,7 +21,7 @@ pub none_worded : (r : Row) {buffer : List ℕ} {at : ℕ} → Worded r buffer a
 none_worded r = record { text = []; left = refl; holds = put_none }
 
 module _ {r : Row} {buffer middle : List ℕ} {at j end : ℕ} (w : Worded r buffer at j middle end) where
-  pub one_worded : {between later : List ℕ} {front last : ℕ} → j < 6 → (get_or r.3 (16 * j) 0 ≡ space → ⊥)
+  pub one_worded : {between later : List ℕ} {front last : ℕ} → j < 6 → (get_or r.words (16 * j) 0 ≡ space → ⊥)
       → Put middle end (bytes_of " | ") between front → Put between front (row_text r j) later last → front ≤ length middle → end ≤ length buffer
       → Worded r buffer at (j + 1) later last
   unfolding words_from
@@ -29,15 +29,15 @@ module _ {r : Row} {buffer middle : List ℕ} {at j end : ℕ} (w : Worded r buf
       let e : 6 - j ≡ suc (6 - (j + 1)) = omega arith in
       record {
         text = w.text ++ (bytes_of " | " ++ row_text r j);
-        left = w.left ∙ rw (e, ne_eqb (get_or r.3 (16 * j) 0) space other) (sym (append_assoc w.text (bytes_of " | " ++ row_text r j) _));
+        left = w.left ∙ rw (e, ne_eqb (get_or r.words (16 * j) 0) space other) (sym (append_assoc w.text (bytes_of " | " ++ row_text r j) _));
         holds = put_on w.holds (put_on p q inner) outer;
       }
 
-  pub space_worded : j < 6 → get_or r.3 (16 * j) 0 ≡ space → Put buffer at (words_from r 1 5) middle end
+  pub space_worded : j < 6 → get_or r.words (16 * j) 0 ≡ space → Put buffer at (words_from r 1 5) middle end
   unfolding words_from
   space_worded h same =
       let e : 6 - j ≡ suc (5 - j) = omega arith in
-      let all : words_from r 1 5 ≡ w.text = w.left ∙ rw (e, eq-eqb (get_or r.3 (16 * j) 0) space same, append-nil) in
+      let all : words_from r 1 5 ≡ w.text = w.left ∙ rw (e, eq-eqb (get_or r.words (16 * j) 0) space same, append-nil) in
       rw all w.holds
 
   pub all_worded : 6 ≤ j → Put buffer at (words_from r 1 5) middle end

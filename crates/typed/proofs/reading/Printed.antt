@@ -16,30 +16,28 @@ use Rattle.typed.specs.declared.EntryFault.TheVariants.{NoName, NoFigure, NoUnit
 use Rattle.typed.specs.declared.table.Row.{Row}
 use Rattle.typed.proofs.reading.Standing.{no_longer}
 
-pub front_is : {buffer text later : List ℕ} {end : ℕ} → Put buffer 0 text later end → end ≤ length buffer → take (end - 0) later ≡ text
+pub front_is : {buffer text later : List ℕ} {end : ℕ} → Put buffer 0 text later end → end ≤ length buffer → take end later ≡ text
 front_is {buffer} {text} {end = end} p h =
-    let e : end - 0 ≡ 0 + length text = omega arith in
+    let e : end ≡ 0 + length text = omega arith in
     rw (e, p.holds) (head_stands buffer 0 text (omega arith))
 
 -- the word of a code
-module _ (words bytes : List ℕ) (j : ℕ) {zeros put : List ℕ} {end : ℕ}
-    (p : Put zeros 0 (token (take (16 * j + 16 - 16 * j) (drop (16 * j) words))) put end) where
-  word_is : Put zeros 0 (word_text words j) put end
+module _ (words bytes : List ℕ) (j : ℕ) {word : List ℕ} (p : word ≡ token (take (16 * j + 16 - 16 * j) (drop (16 * j) words))) where
+  word_is : word ≡ word_text words j
   unfolding word_text
   word_is = let e : 16 * j + 16 - 16 * j ≡ 16 = omega arith in rw e at p
 
-  pub no_word : end ≡ 0 → false ≡ word_stands words bytes j
+  pub no_word : length word ≡ 0 → false ≡ word_stands words bytes j
   unfolding word_stands
-  no_word e = rw (eq-eqb (length (word_text words j)) 0 (omega (arith, word_is.after)))
+  no_word none = rw (← word_is, eq-eqb (length word) 0 none)
 
-  pub word_by : {r : Bool} → (end ≡ 0 → ⊥) → end ≤ length zeros → r ≡ stands (take (end - 0) put) bytes → r ≡ word_stands words bytes j
+  pub word_by : {r : Bool} → (length word ≡ 0 → ⊥) → r ≡ stands word bytes → r ≡ word_stands words bytes j
   unfolding word_stands
-  word_by some h e =
-      rw (ne_eqb (length (word_text words j)) 0 (λ none. some (omega (arith, word_is.after)))) (rw (front_is word_is h) at e)
+  word_by some e = rw (← word_is, ne_eqb (length word) 0 some) e
 
 -- What a line says of a row, by each way out. First the name is put and compared.
 module _ (row : Row) (line : List ℕ) {zeros named : List ℕ} {name : ℕ} (p : Put zeros 0 (name_text row) named name) (held : name ≤ length zeros)
-    {there : Bool} (asked : there ≡ stands (take (name - 0) named) line) where
+    {there : Bool} (asked : there ≡ stands (take name named) line) where
   name_asked : there ≡ stands (name_text row) line
   name_asked = rw (front_is p held) at asked
 
@@ -54,7 +52,7 @@ module _ (row : Row) (line : List ℕ) {zeros named : List ℕ} {name : ℕ} (p 
     -- then the figure that is guessed from what stands behind the name
     module _ {n : ℕ} (guess : n ≡ guessed row (take (length line - name) (drop name line))) {fronted : List ℕ} {front : ℕ}
         (q : Put named name (figure_text row n) fronted front) (held₁ : front ≤ length zeros)
-        {there₁ : Bool} (asked₁ : there₁ ≡ stands (take (front - 0) fronted) line) where
+        {there₁ : Bool} (asked₁ : there₁ ≡ stands (take front fronted) line) where
       entry_on_lem : entry_on row line n ≡ entry_by row line
       unfolding entry_by
       entry_on_lem =
@@ -75,7 +73,7 @@ module _ (row : Row) (line : List ℕ) {zeros named : List ℕ} {name : ℕ} (p 
 
       -- and last the unit
       module _ (has₁ : there₁ ≡ true) {whole : List ℕ} {end : ℕ} (s : Put fronted front (unit_text row n) whole end) (held₂ : end ≤ length zeros)
-          {there₂ : Bool} (asked₂ : there₂ ≡ same (take (end - 0) whole) line) where
+          {there₂ : Bool} (asked₂ : there₂ ≡ same (take end whole) line) where
         row_put : Put zeros 0 (row_text row n) whole end
         unfolding row_text
         row_put = put_on front_put s held₁

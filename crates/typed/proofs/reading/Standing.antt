@@ -1,17 +1,17 @@
 -- A text at the front of bytes, byte by byte.
 use mathlib.Core.Path.{◌≡◌, refl}
-use mathlib.Core.Bool.{Bool, true, false}
+use mathlib.Core.Bool.{Bool, true, false, ◌&&◌}
 use mathlib.Core.List.{List, [], ◌∷◌}
-use Prim.Native.Nat.{ℕ, ◌+◌, ◌≤◌, ◌<◌}
-use native.Mathlib.Numerals.{add-one}
+use Prim.Native.Nat.{ℕ, ◌≤◌, ◌<◌}
 use native.Mathlib.Omega.{arith}
-use borrow.Author.Tests.{eq-eqb, ne_eqb, leb-true, leb-false}
+use borrow.Author.Tests.{eqb-true, eqb-false, leb-true, leb-false}
 use lib.Dec.{eqb, leb}
-use lib.ListN.{length, drop, get_or, drop_of_length-le}
-use lib.Seq.{drop-cons}
+use Rattle.std.proofs.Common.{take_all}
+use lib.ListN.{length, take}
+use lib.Pointwise.{pointwise, pointwise_long}
 use Rattle.laws.specs.Choice.{ifᵇ◌then◌else◌}
 use Rattle.laws.proofs.Never.{never}
-use Rattle.typed.specs.Reading.{stands}
+use Rattle.typed.specs.Reading.{stands, same}
 
 -- bytes that are fewer than a text's do not begin with it
 pub too_short : (text bytes : List ℕ) → length bytes < length text → stands text bytes ≡ false
@@ -31,17 +31,28 @@ no_longer text bytes e = go (leb (length text) (length bytes)) refl
     go true h = leb-true _ _ h
     go false h = never (cc (too_short text bytes (leb-false _ _ h)))
 
--- one byte passed, another byte, and none left
-module _ (text bytes : List ℕ) (j : ℕ) where
-  pub stands_on : j < length text → j < length bytes → get_or text j 0 ≡ get_or bytes j 0
-      → stands (drop j text) (drop j bytes) ≡ stands (drop (j + 1) text) (drop (j + 1) bytes)
-  unfolding stands
-  stands_on h g e = rw (drop-cons text j 0 h, drop-cons bytes j 0 g, eq-eqb _ _ e, add-one)
+-- `starts_with` of a slice asks the same, and `==` whether bytes are a text
+pub stands_is : (text bytes : List ℕ) → pointwise eqb text (take (length text) bytes) ≡ stands text bytes
+unfolding stands
+stands_is [] bytes = refl
+stands_is (a ∷ text) [] = refl
+stands_is (a ∷ text) (b ∷ bytes) = go (eqb a b) (stands_is text bytes)
+  where
+    go : (t : Bool) → pointwise eqb text (take (length text) bytes) ≡ stands text bytes
+        → (t && pointwise eqb text (take (length text) bytes)) ≡ (ifᵇ t then stands text bytes else false)
+    go true e = e
+    go false e = refl
 
-  pub stands_other : j < length text → j < length bytes → (get_or text j 0 ≡ get_or bytes j 0 → ⊥) → stands (drop j text) (drop j bytes) ≡ false
-  unfolding stands
-  stands_other h g e = rw (drop-cons text j 0 h, drop-cons bytes j 0 g, ne_eqb _ _ e)
+pub same_is : (text bytes : List ℕ) → pointwise eqb text bytes ≡ same text bytes
+unfolding same
+same_is text bytes = go (eqb (length text) (length bytes)) refl
+  where
+    apart : (t : Bool) → pointwise eqb text bytes ≡ t → (length text ≡ length bytes → ⊥) → t ≡ false
+    apart true e other = absurd (other (pointwise_long eqb text bytes e))
+    apart false e other = refl
 
-  pub stands_all : length text ≤ j → stands (drop j text) (drop j bytes) ≡ true
-  unfolding stands
-  stands_all h = rw (drop_of_length-le text h)
+    go : (t : Bool) → eqb (length text) (length bytes) ≡ t → pointwise eqb text bytes ≡ (ifᵇ t then stands text bytes else false)
+    go true e =
+        let long : length text ≡ length bytes = eqb-true _ _ e in
+        rw (take_all (length text) bytes (omega arith)) at (stands_is text bytes)
+    go false e = apart (pointwise eqb text bytes) refl (eqb-false _ _ e)

@@ -1,9 +1,8 @@
 -- `typed::row_named` meets its contract: it looks at the rows in order. The loop's invariant: the line has the name of no row passed.
--- The measure is the rows that are left.
 use mathlib.Core.Path.{◌≡◌, sym, ◌∙◌}
-use Prim.Native.Nat.{◌+◌}
+use Prim.Native.Nat.{◌+◌, ◌-◌}
 use native.Mathlib.Omega.{arith}
-use borrow.Author.Count.{below_none, below_more}
+use borrow.Author.Count.{below_more}
 use borrow.Author.Tests.{ne_eqb}
 use Rattle.laws.specs.First.{first_of}
 use Rattle.laws.proofs.First.{first_is, none_is}
@@ -16,19 +15,15 @@ returns-then-has_name c =
     let i = c.loop-i.i in
     let here = sym (rw c.row_at.ensures at c.has_name.ensures) ∙ c.if-has_name.true in
     let first : first_of (named c.args.line.now) 28 ≡ i + 1 =
-    first_is _ 28 i (record { within = omega arith; here = here; none_before = c.loop-i.invariant.1 }) in
-    rw (first, ne_eqb (i + 1) 0 (λ e. omega arith)) (omega arith)
+    first_is _ 28 i (record { within = omega arith; here = here; none_before = c.loop-i.invariant }) in
+    let back : i + 1 - 1 ≡ i = omega arith in
+    rw (first, ne_eqb (i + 1) 0 (λ e. omega arith), back)
 
 pub loop-i-preserved : goal.loop-i-preserved
 unfolding named
 loop-i-preserved c =
-    let l = c.loop-i in
-    let other = sym (rw c.row_at.ensures at c.has_name.ensures) ∙ c.if-has_name.false in
-    (omega arith, below_more _ l.i l.invariant.1 other)
+    let l = c.loop-i in below_more _ l.i l.invariant (sym (rw c.row_at.ensures at c.has_name.ensures) ∙ c.if-has_name.false)
 
 pub returns : goal.returns
 unfolding row_named
-returns c = rw (none_is _ 28 (λ k h. c.loop-i.invariant.1 k (omega arith))) (omega arith)
-
-pub loop-i-init : goal.loop-i-init
-loop-i-init c = (omega arith, below_none _)
+returns c = rw (none_is _ 28 (λ k h. c.loop-i.invariant k (omega arith)))

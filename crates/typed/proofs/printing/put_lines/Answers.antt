@@ -15,8 +15,8 @@ returns-in-Level c =
     rw (lines_by_lem a.row a.values c.in-Level.is)
     (put_on (put_on c.put_row-record.ensures.0 c.put_bytes-given.ensures (omega arith)) c.put_span.ensures (omega arith))
 
-pub returns : goal.returns
-returns c =
+pub returns-in_default : goal.returns-in_default
+returns-in_default c =
     let a = c.args in
-    rw (lines_span a.row a.values c.in_default.not-Words c.in_default-kind.not-Level)
-    c.put_span-2.ensures
+    rw (lines_span a.row a.values c.in_default.not-Words c.in_default.not-Level)
+    c.put_span-in_default.ensures

@@ -10,7 +10,7 @@ use Rattle.typed.proofs.printing.put_name.Goals as goal
 pub returns : goal.returns
 unfolding name_text
 returns c =
-    let sized : length c.args.row.0 ≡ 16 = c.well_formed.0.1.1.0.1.0.1 in
+    let sized : length c.args.row.name ≡ 16 = c.well_formed.0.1.1.0.1.0.1 in
     (then_byte space c.put_token-end.ensures.0 (omega arith), omega arith)
 
 pub put_token-end-requires : goal.put_token-end-requires

@@ -1,5 +1,4 @@
 -- `typed::printing::put_words` meets its contract. The loop's invariant: the lines of the words passed stand, each behind ` | `.
--- The measure is the words that are left.
 use Prim.Native.Nat.{◌+◌, ◌*◌, ◌-◌, ◌≤◌}
 use mathlib.Core.Path.{◌≡◌}
 use lib.ListN.{length}
@@ -8,7 +7,4 @@ use Rattle.typed.proofs.printing.put_words.Given as goal
 
 abbrev pub invariant-loop-j : goal.invariant-loop-j
 invariant-loop-j l =
-    (1 ≤ l.j) × (l.j ≤ 6) × (length l.buffer ≡ length l.initial.buffer) × (l.end + 83 * (6 - l.j) ≤ l.at + 415) × Worded l.row l.initial.buffer l.at l.j l.buffer l.end
-
-abbrev pub decreases-loop-j : goal.decreases-loop-j
-decreases-loop-j l = 6 - l.j
+    (length l.buffer ≡ length l.initial.buffer) × (l.end + 83 * (6 - l.j) ≤ l.at + 415) × Worded l.row l.initial.buffer l.at l.j l.buffer l.end

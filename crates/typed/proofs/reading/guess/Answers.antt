@@ -26,4 +26,4 @@ pub returns-in-Whole : goal.returns-in-Whole
 unfolding guessed
 returns-in-Whole c =
     let row = c.args.row in
-    c.digits_read.ensures.0 ∙ in_digits row.1 row.3 _ c.in-Whole.is
+    c.digits_read.ensures.0 ∙ in_digits row.kind row.words _ c.in-Whole.is
