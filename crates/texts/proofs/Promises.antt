@@ -1,5 +1,6 @@
 -- What typed texts promise, in the definition's words (section 14). Each proof stands where it is cited.
-use Rattle.std.specs.Prelude.{Ok, Err}
+use Rattle.std.specs.Prelude.{None}
+use Rattle.sheet.specs.declared.SheetRead.TheVariants.{Good, NoSheet}
 use mathlib.Core.Path.{◌≡◌, sym, ◌∙◌}
 use mathlib.Core.Bool.{true, false}
 use mathlib.Core.List.{List, [], ◌∷◌, ◌++◌, map, flatten, Memᴰ}
@@ -28,7 +29,6 @@ use Rattle.texts.specs.Steps.{fault_number, step, step_of}
 use Rattle.texts.specs.Texts.{beginning, happened_in, next_of, all_of}
 use Rattle.texts.specs.Typed.{kept, all_from, beginnings, sheets_of, Faultless, typed_bytes, sheet_lines, Titled, lines_of_all, figures_of_all, SheetFigures, Proper, TypedAs, TypedAndRead, event_number, line_rows, RefusedAt, messages_of, LineKind, PlaceIn, text_of, OneLine, IsSheet, shown_all}
 use Rattle.texts.specs.declared.Cursor.{Cursor}
-use Rattle.texts.specs.declared.Event.TheVariants.{Nothing}
 use Rattle.texts.specs.declared.Found.{Found}
 use Rattle.texts.specs.declared.LineFault.{LineFault}
 use Rattle.texts.specs.declared.Place.{Place}
@@ -155,7 +155,7 @@ pub every_line_means : (text : List ℕ) → Faultless text → (line : List ℕ
 every_line_means = each_line
 
 -- Shown and typed again: the text of a sheet's bytes is accepted, has its figures, and its bytes are those that were shown.
-pub shown_is_accepted : (index : ℕ) (bytes : List ℕ) (s : Sheet) → read_of bytes ≡ Ok s
+pub shown_is_accepted : (index : ℕ) (bytes : List ℕ) (s : Sheet) → read_of bytes ≡ Good s
     → Faultless (shown_text index bytes) × (sheets_of (all_of (shown_text index bytes)) ≡ figures_of s ∷ [])
 shown_is_accepted = one_typed
 
@@ -163,7 +163,7 @@ pub shown_and_typed : (index : ℕ) (bytes : List ℕ) → IsSheet bytes → Byt
 shown_and_typed = one_again
 
 -- Bytes that are no sheet are never silently typed: their text has a fault.
-pub shown_refused : (index : ℕ) (bytes : List ℕ) (fault : ReadFault) → read_of bytes ≡ Err fault → Faultless (shown_text index bytes) → ⊥
+pub shown_refused : (index : ℕ) (bytes : List ℕ) (fault : ReadFault) → read_of bytes ≡ NoSheet fault → Faultless (shown_text index bytes) → ⊥
 shown_refused = one_refused
 
 -- The same of many, one behind another.
@@ -191,7 +191,7 @@ pub turned_away_once : (figures : List ℕ) (k : ℕ) (line : List ℕ) → begi
     → (event_number (step_of (InRow k) figures line).event ≡ 0) ⊎ RefusedAt k (step_of (InRow k) figures line)
 turned_away_once = refused_once
 
-pub passed_over_behind : (figures line : List ℕ) → begins_sheet line ≡ false → step_of Skipping figures line ≡ step Skipping figures Nothing
+pub passed_over_behind : (figures line : List ℕ) → begins_sheet line ≡ false → step_of Skipping figures line ≡ step Skipping figures None
 passed_over_behind = skipped
 
 -- No bytes of a text with a fault.

@@ -1,5 +1,5 @@
 -- What a line brings (section 14.3).
-use Rattle.std.specs.Prelude.{ℕ, ◌+◌, ◌-◌, List, set, Result, Ok, Err}
+use Rattle.std.specs.Prelude.{ℕ, ◌+◌, ◌-◌, List, set, Result, Ok, Err, Option, Some, None}
 use Rattle.laws.specs.Choice.{ifᵇ◌then◌else◌, ◌<ᵇ◌, ◌=ᵇ◌}
 use Rattle.sheet.specs.Fields.{standing_of, count as field_count}
 use Rattle.sheet.specs.declared.Standing.{Standing}
@@ -9,7 +9,7 @@ use Rattle.typed.specs.Reading.{entry_of, row_named}
 use Rattle.typed.specs.declared.EntryFault.TheVariants.{NoName as NameMissing, NoFigure as FigureMissing, NoUnit as UnitMissing}
 use Rattle.texts.specs.Cutting.{begins_sheet, passed_over}
 use Rattle.texts.specs.declared.Event.{Event}
-use Rattle.texts.specs.declared.Event.TheVariants.{Nothing, Sheet, Fault}
+use Rattle.texts.specs.declared.Event.TheVariants.{Sheet, Fault}
 use Rattle.texts.specs.declared.LineFault.{LineFault}
 use Rattle.texts.specs.declared.LineFault.TheVariants.{NoSheet, Missing, NoName, Twice, Misplaced, NoFigure, NoUnit, OutOfRange, Disagrees}
 use Rattle.texts.specs.declared.Stage.{Stage}
@@ -43,25 +43,35 @@ stored figures k n =
 unfoldable pub field_of : ℕ → ℕ
 field_of k = ifᵇ k <ᵇ level_row then k else (ifᵇ k <ᵇ count then k + 1 else field_count)
 
-abbrev pub step : Stage → List ℕ → Event → Step
+abbrev pub step : Stage → List ℕ → Option Event → Step
 step stage figures event = record { stage = stage; figures = figures; event = event }
 
 -- a line is turned away, and those behind it are passed over
 abbrev pub refused_by : List ℕ → LineFault → ℕ → Step
-refused_by figures fault row = step Skipping figures (Fault fault row)
+refused_by figures fault row = step Skipping figures (Some (Fault fault row))
 
 -- a figure was read: it is out of its range, it disagrees with another, the next row follows, or the sheet is whole
 abbrev pub accepted_by : Standing → List ℕ → ℕ → Step
 accepted_by Outside figures k = refused_by figures OutOfRange k
 accepted_by DisagreesThere figures k = refused_by figures Disagrees k
-accepted_by Fine figures k = ifᵇ k <ᵇ 27 then step (InRow (k + 1)) figures Nothing else step Between figures Sheet
+accepted_by Fine figures k = ifᵇ k <ᵇ 27 then step (InRow (k + 1)) figures None else step Between figures (Some Sheet)
 
 unfoldable pub accepted_in : List ℕ → ℕ → Step
 accepted_in figures k = accepted_by (standing_of figures (field_of k)) figures k
 
 -- a line without the row's name: no row has its name, one before, or one behind
+abbrev pub name_fault_by : Option ℕ → ℕ → LineFault
+name_fault_by None k = NoName
+name_fault_by (Some named) k = ifᵇ named <ᵇ k then Twice else Misplaced
+
 unfoldable pub name_fault : ℕ → List ℕ → LineFault
-name_fault k line = ifᵇ row_named line =ᵇ count then NoName else (ifᵇ row_named line <ᵇ k then Twice else Misplaced)
+name_fault k line = name_fault_by (row_named line) k
+
+-- why a line has no figure, as it is told
+abbrev pub told_of : EntryFault → ℕ → List ℕ → LineFault
+told_of NameMissing k line = name_fault k line
+told_of FigureMissing k line = NoFigure
+told_of UnitMissing k line = NoUnit
 
 -- a line in the place of the row after the first k
 abbrev pub row_step_by : Result ℕ EntryFault → List ℕ → ℕ → List ℕ → Step
@@ -74,10 +84,10 @@ unfoldable pub row_step : List ℕ → ℕ → List ℕ → Step
 row_step figures k line = row_step_by (entry_of k line) figures k line
 
 -- what is missing where a sheet ends at a stage
-abbrev pub missing_at : Stage → Event
-missing_at Between = Nothing
-missing_at (InRow k) = Fault Missing k
-missing_at Skipping = Nothing
+abbrev pub missing_at : Stage → Option Event
+missing_at Between = None
+missing_at (InRow k) = Some (Fault Missing k)
+missing_at Skipping = None
 
 -- a line that begins a sheet
 unfoldable pub begin_step : Stage → List ℕ → Step
@@ -86,7 +96,7 @@ begin_step stage figures = step (InRow 0) figures (missing_at stage)
 -- a line that begins none
 abbrev pub other_step : Stage → List ℕ → List ℕ → Step
 other_step Between figures line = refused_by figures NoSheet count
-other_step Skipping figures line = step Skipping figures Nothing
+other_step Skipping figures line = step Skipping figures None
 other_step (InRow k) figures line = row_step figures k line
 
 -- a line that is not passed over
@@ -95,4 +105,4 @@ step_of stage figures line = ifᵇ begins_sheet line then begin_step stage figur
 
 -- any line
 unfoldable pub line_step : Stage → List ℕ → List ℕ → Step
-line_step stage figures line = ifᵇ passed_over line then step stage figures Nothing else step_of stage figures line
+line_step stage figures line = ifᵇ passed_over line then step stage figures None else step_of stage figures line

@@ -1,12 +1,11 @@
 -- The sheets and the faults of a text, one after another (section 14.3).
-use Rattle.std.specs.Prelude.{ℕ, ◌+◌, min, Bool, true, false, List, [], ◌∷◌, ◌++◌, length, drop, replicate}
+use Rattle.std.specs.Prelude.{ℕ, ◌+◌, min, Bool, true, false, List, [], ◌∷◌, ◌++◌, Option, Some, None, length, drop, replicate}
 use Rattle.laws.specs.Choice.{ifᵇ◌then◌else◌}
 use Rattle.sheet.specs.Fields.{count as field_count}
 use Rattle.texts.specs.Cutting.{lines_of, bare, next_number}
 use Rattle.texts.specs.Steps.{missing_at, line_step}
 use Rattle.texts.specs.declared.Cursor.{Cursor}
 use Rattle.texts.specs.declared.Event.{Event}
-use Rattle.texts.specs.declared.Event.TheVariants.{Nothing, Sheet, Fault}
 use Rattle.texts.specs.declared.Found.{Found}
 use Rattle.texts.specs.declared.Stage.TheVariants.{Between}
 use Rattle.texts.specs.declared.steps.Step.{Step}
@@ -15,10 +14,9 @@ use Rattle.texts.specs.declared.steps.Step.{Step}
 abbrev pub beginning : Cursor
 beginning = record { at = 0; lines = 0; stage = Between; figures = replicate field_count 0 }
 
-abbrev pub happened_in : Event → Bool
-happened_in Nothing = false
-happened_in Sheet = true
-happened_in (Fault fault row) = true
+abbrev pub happened_in : Option Event → Bool
+happened_in None = false
+happened_in (Some event) = true
 
 -- what a step of a line finds in a text of so many bytes
 abbrev pub found_by : ℕ → Cursor → List ℕ → Step → Found

@@ -1,5 +1,6 @@
 -- What a typed text is, in the definition's words (section 14): its lines, its sheets, its faults and its bytes.
-use Rattle.std.specs.Prelude.{◌≡◌, true, false, ◌⊎◌, ◌≢◌, ℕ, zero, suc, ◌+◌, ◌-◌, ◌*◌, ◌≤◌, ◌<◌, length, get_or, take, drop, Ok}
+use Rattle.std.specs.Prelude.{◌≡◌, true, false, ◌⊎◌, ◌≢◌, ℕ, zero, suc, ◌+◌, ◌-◌, ◌*◌, ◌≤◌, ◌<◌, length, get_or, take, drop, Option, Some, None}
+use Rattle.sheet.specs.declared.SheetRead.TheVariants.{Good}
 use mathlib.Core.List.{List, [], ◌∷◌, ◌++◌, map, flatten}
 use Rattle.laws.specs.Choice.{ifᵇ◌then◌else◌}
 use Rattle.laws.specs.Each.{Each}
@@ -18,7 +19,7 @@ use Rattle.texts.specs.Steps.{fault_number}
 use Rattle.texts.specs.Texts.{all_in, all_of}
 use Rattle.texts.specs.declared.Cursor.{Cursor}
 use Rattle.texts.specs.declared.Event.{Event}
-use Rattle.texts.specs.declared.Event.TheVariants.{Nothing, Sheet as SheetDone, Fault}
+use Rattle.texts.specs.declared.Event.TheVariants.{Sheet as SheetDone, Fault}
 use Rattle.texts.specs.declared.Found.{Found}
 use Rattle.texts.specs.declared.LineFault.{LineFault}
 use Rattle.texts.specs.declared.Place.{Place}
@@ -44,20 +45,20 @@ beginnings [] = 0
 beginnings (line ∷ lines) = ifᵇ begins_sheet line then beginnings lines + 1 else beginnings lines
 
 -- of what was found, the faults
-abbrev pub fault_in : Event → Found → List Found
-fault_in Nothing found = []
-fault_in SheetDone found = []
-fault_in (Fault fault row) found = found ∷ []
+abbrev pub fault_in : Option Event → Found → List Found
+fault_in None found = []
+fault_in (Some SheetDone) found = []
+fault_in (Some (Fault fault row)) found = found ∷ []
 
 unfoldable pub faults_of : List Found → List Found
 faults_of [] = []
 faults_of (found ∷ all) = fault_in found.event found ++ faults_of all
 
 -- and the figures of the sheets
-abbrev pub sheet_in : Event → List ℕ → List (List ℕ)
-sheet_in Nothing figures = []
-sheet_in SheetDone figures = figures ∷ []
-sheet_in (Fault fault row) figures = []
+abbrev pub sheet_in : Option Event → List ℕ → List (List ℕ)
+sheet_in None figures = []
+sheet_in (Some SheetDone) figures = figures ∷ []
+sheet_in (Some (Fault fault row)) figures = []
 
 unfoldable pub sheets_of : List Found → List (List ℕ)
 sheets_of [] = []
@@ -118,16 +119,16 @@ pub record TypedAs (text : List ℕ) (sheets : List Titled) : Type 0 where
 -- that of the row's figure in the sheet that was read.
 pub record TypedAndRead (text : List ℕ) (j : ℕ) : Type 0 where
   pub sheet : Sheet
-  pub read : read_of (take size (drop (28 * j) (typed_bytes text))) ≡ Ok sheet
+  pub read : read_of (take size (drop (28 * j) (typed_bytes text))) ≡ Good sheet
   pub its_figures : figures_of sheet ≡ get_or (sheets_of (all_of text)) j []
   pub its_title : begins_sheet (get_or (kept text) (29 * j) []) ≡ true
   pub its_rows : (i : ℕ) → i < count → get_or (kept text) (29 * j + 1 + i) [] ≡ line_text i (row_figure (figures_of sheet) i)
 
 -- the number of what a line brings: the fault's, 0 where there is none
-abbrev pub event_number : Event → ℕ
-event_number Nothing = 0
-event_number SheetDone = 0
-event_number (Fault fault row) = fault_number fault
+abbrev pub event_number : Option Event → ℕ
+event_number None = 0
+event_number (Some SheetDone) = 0
+event_number (Some (Fault fault row)) = fault_number fault
 
 -- the figure that a line has in the row after the first k
 abbrev pub figure_at : ℕ → List ℕ → ℕ
@@ -154,14 +155,14 @@ line_rows k figures line =
 -- a step that turns a line away: the fault names the row that was to stand there, and the lines behind it are passed over
 pub record RefusedAt (k : ℕ) (s : Step) : Type 0 where
   pub fault : LineFault
-  pub told : s.event ≡ Fault fault k
+  pub told : s.event ≡ Some (Fault fault k)
   pub then_skips : s.stage ≡ Skipping
 
 -- the messages of a text, in the order of its faults
-abbrev pub message_in : List ℕ → Event → Place → List (List ℕ)
-message_in text Nothing place = []
-message_in text SheetDone place = []
-message_in text (Fault fault row) place = message_text text fault row place ∷ []
+abbrev pub message_in : List ℕ → Option Event → Place → List (List ℕ)
+message_in text None place = []
+message_in text (Some SheetDone) place = []
+message_in text (Some (Fault fault row)) place = message_text text fault row place ∷ []
 
 unfoldable pub messages_in : List ℕ → List Found → List (List ℕ)
 messages_in text [] = []
@@ -194,7 +195,7 @@ pub record OneLine (line : List ℕ) : Type 0 where
 
 -- bytes that are a sheet
 abbrev pub IsSheet : List ℕ → Type 0
-IsSheet bytes = (sheet : Sheet) × (read_of bytes ≡ Ok sheet)
+IsSheet bytes = (sheet : Sheet) × (read_of bytes ≡ Good sheet)
 
 -- the texts of some bytes one behind another, with their indices
 unfoldable pub shown_all : ℕ → List (List ℕ) → List ℕ

@@ -45,10 +45,9 @@ pub enum LineFault {
     Disagrees,
 }
 
-// What a line brings: nothing, the last row of a sheet, or a fault in the place of a row.
+// What a line brings, where it brings something: the last row of a sheet, or a fault in the place of a row.
 #[derive(Clone, Copy)]
 pub enum Event {
-    Nothing,
     Sheet,
     Fault(LineFault, usize),
 }
@@ -69,7 +68,8 @@ pub struct Span {
     pub end: usize,
 }
 
-// Where something was found: the line's number, its first byte and the place after its last; or that the text ends.
+// Where something was found: the line's number, its first byte and the place after its last; or that the text ends. `next` promises
+// the place behind the last line too, so `ended` stands beside it.
 #[derive(Clone, Copy)]
 pub struct Place {
     pub line: u32,
@@ -78,10 +78,10 @@ pub struct Place {
     pub ended: bool,
 }
 
-// The next thing that is found in a text; nothing where it ends.
+// The next thing that is found in a text; nothing happened where it ends. Its place and its cursor are told there too.
 #[derive(Clone, Copy)]
 pub struct Found {
-    pub event: Event,
+    pub event: Option<Event>,
     pub place: Place,
     pub cursor: Cursor,
 }
@@ -122,12 +122,10 @@ pub fn next(text: &[u8], cursor: Cursor) -> Found
     let mut now = cursor;
     while now.at < text.len() {
         let found = steps::turn(text, now);
-        let event = found.event;
-        if steps::happened(event) {
+        if found.event.is_some() {
             return found;
         }
-        let after = found.cursor;
-        now = after;
+        now = found.cursor;
     }
     steps::ended(now)
 }
@@ -137,13 +135,13 @@ pub fn next(text: &[u8], cursor: Cursor) -> Found
 pub fn name_after(text: &[u8], from: usize) -> Span
     ensures { (result ≡ name_after text.now from) × ((result.start ≤ result.end) × (result.end ≤ length text.now)) }
 {
-    let mut at = cutting::least(from, text.len());
+    let mut at = from.min(text.len());
     while at < text.len() {
         let end = cutting::line_end(text, at);
         let bare = cutting::bare_length(&text[at..end]);
         if cutting::begins_sheet(&text[at..at + bare]) {
             return Span {
-                start: at + cutting::least(FRONT_BYTES, bare),
+                start: at + FRONT_BYTES.min(bare),
                 end: at + bare,
             };
         }
@@ -190,11 +188,10 @@ pub fn put_message(
 pub fn put_visible(bytes: &[u8], buffer: &mut [u8], at: usize) -> usize
     ensures { (result ≡ place_within (length bytes.now) (map shown bytes.now) at buffer.old) × (buffer.new ≡ buffer_within (length bytes.now) (map shown bytes.now) at buffer.old) }
 {
-    let count = bytes.len();
-    if !lines::fits(buffer.len(), at, count) {
+    if !lines::fits(buffer.len(), at, bytes.len()) {
         return at;
     }
-    messages::put_seen(bytes, count, buffer, at)
+    messages::put_seen(bytes, buffer, at)
 }
 
 // Puts the text of bytes that are shown as the sheet of an index, likewise where 4,096 bytes fit.

@@ -3,16 +3,16 @@ ghost use Rattle.std.specs.Prelude.{◌≡◌, ◌+◌, ◌≤◌, length, take,
 ghost use Rattle.lines.specs.Lines.{Put};
 ghost use Rattle.texts.specs.Messages.{reason_text, shown, quoted_text, stood_text, expected_for, message_text};
 
-use crate::{LineFault, Place, cutting, putting};
+use crate::{LineFault, Place, putting};
 
 // The bytes that a message is given, and how many of a line are shown.
 pub const ROOM: usize = 1024;
 
 const SEEN: usize = 60;
 
-const SPACE: u8 = 32;
+const SPACE: u8 = b' ';
 
-const QUESTION: u8 = 63;
+const QUESTION: u8 = b'?';
 
 const DELETE: u8 = 127;
 
@@ -47,17 +47,15 @@ fn shown_byte(byte: u8) -> u8
     byte
 }
 
-// The first bytes of a line, as they are shown.
-pub fn put_seen(line: &[u8], count: usize, buffer: &mut [u8], at: usize) -> usize
-    requires { (count ≤ length line.now) × (at + count ≤ length buffer.old) }
-    ensures { Put buffer.old at (map shown (take count line.now)) buffer.new result × (result ≤ at + count) }
+// Bytes as they are shown.
+pub fn put_seen(bytes: &[u8], buffer: &mut [u8], at: usize) -> usize
+    requires { at + length bytes.now ≤ length buffer.old }
+    ensures { Put buffer.old at (map shown bytes.now) buffer.new result × (result ≤ at + length bytes.now) }
 {
-    let mut j: usize = 0;
-    while j < count {
-        buffer[at + j] = shown_byte(line[j]);
-        j += 1;
+    for (j, byte) in bytes.iter().enumerate() {
+        buffer[at + j] = shown_byte(*byte);
     }
-    at + j
+    at + bytes.len()
 }
 
 // A line between quotes, cut where it is long.
@@ -66,7 +64,7 @@ fn put_quoted(line: &[u8], buffer: &mut [u8], at: usize) -> usize
     ensures { Put buffer.old at (quoted_text line.now) buffer.new result × (result ≤ at + 64) }
 {
     let first = putting::put(b"\"", buffer, at);
-    let last = put_seen(line, cutting::least(SEEN, line.len()), buffer, first);
+    let last = put_seen(&line[..SEEN.min(line.len())], buffer, first);
     let end = putting::put(b"\"", buffer, last);
     if line.len() <= SEEN {
         return end;
@@ -82,8 +80,8 @@ fn put_stood(text: &[u8], place: Place, buffer: &mut [u8], at: usize) -> usize
     if place.ended {
         return putting::put(b"the text ends", buffer, at);
     }
-    let end = cutting::least(place.end, text.len());
-    let start = cutting::least(place.start, end);
+    let end = place.end.min(text.len());
+    let start = place.start.min(end);
     put_quoted(&text[start..end], buffer, at)
 }
 

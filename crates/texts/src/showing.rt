@@ -4,7 +4,7 @@ ghost use Rattle.lines.specs.Lines.{Put};
 ghost use Rattle.texts.specs.Shown.{row_line, rows_text, refused_text, read_text, shown_text, form_row, form_text, sheet_text};
 
 use crate::{SHEET_BYTES, putting};
-use sheet::{ReadFault, Sheet};
+use sheet::{ReadFault, SheetRead};
 
 // The bytes that the form is given.
 pub const FORM_ROOM: usize = 20000;
@@ -24,10 +24,8 @@ fn put_rows(figures: [u32; sheet::COUNT], buffer: &mut [u8], at: usize) -> usize
     ensures { Put buffer.old at (rows_text figures 0 28) buffer.new result }
 {
     let mut end = at;
-    let mut i: usize = 0;
-    while i < typed::COUNT {
+    for i in 0..typed::COUNT {
         end = put_row(i, crate::row_figure(figures, i), buffer, end);
-        i += 1;
     }
     end
 }
@@ -45,13 +43,13 @@ fn put_refused(fault: ReadFault, buffer: &mut [u8], at: usize) -> usize
 }
 
 // What bytes are read as.
-fn put_read(read: Result<Sheet, ReadFault>, buffer: &mut [u8], at: usize) -> usize
+fn put_read(read: SheetRead, buffer: &mut [u8], at: usize) -> usize
     requires { at + 2400 ≤ length buffer.old }
     ensures { Put buffer.old at (read_text read) buffer.new result }
 {
     match read {
-        Ok(sheet) => put_rows(sheet::figures_of(sheet), buffer, at),
-        Err(fault) => put_refused(fault, buffer, at),
+        SheetRead::Good(sheet) => put_rows(sheet::figures_of(sheet), buffer, at),
+        SheetRead::NoSheet(fault) => put_refused(fault, buffer, at),
     }
 }
 
@@ -73,11 +71,11 @@ pub fn put_figures(figures: [u32; sheet::COUNT], buffer: &mut [u8], at: usize) -
 {
     let made = sheet::sheet_from(figures);
     match made {
-        Ok(sheet) => {
+        SheetRead::Good(sheet) => {
             sheet::write(sheet, &mut buffer[at..]);
             at + SHEET_BYTES
         }
-        Err(_) => at,
+        SheetRead::NoSheet(_) => at,
     }
 }
 
@@ -101,10 +99,8 @@ pub fn put_form_rows(buffer: &mut [u8], at: usize) -> usize
     let head =
         b"# Put a figure or a word in the place of each _; the line above says which. A name may stand behind sheet.\nsheet\n";
     let mut end = putting::put(head, buffer, at);
-    let mut i: usize = 0;
-    while i < typed::COUNT {
+    for i in 0..typed::COUNT {
         end = put_form_row(i, buffer, end);
-        i += 1;
     }
     end
 }

@@ -1,8 +1,8 @@
 // One line of a text: what it brings, and how far the text is read then (definition, section 14.3).
 ghost use Rattle.std.specs.Prelude.{◌≡◌, ◌<◌, length, drop};
 ghost use Rattle.texts.specs.Cutting.{line_of};
-ghost use Rattle.texts.specs.Steps.{stored, field_of, refused_by, accepted_in, name_fault, row_step, missing_at, begin_step, step_of, line_step};
-ghost use Rattle.texts.specs.Texts.{happened_in, turn_on, ended_at};
+ghost use Rattle.texts.specs.Steps.{stored, field_of, refused_by, accepted_in, name_fault, told_of, row_step, missing_at, begin_step, step_of, line_step};
+ghost use Rattle.texts.specs.Texts.{turn_on, ended_at};
 
 use crate::{Cursor, Event, Found, LineFault, Place, Stage, cutting};
 use sheet::Standing;
@@ -13,7 +13,7 @@ use typed::EntryFault;
 pub struct Step {
     pub stage: Stage,
     pub figures: [u32; sheet::COUNT],
-    pub event: Event,
+    pub event: Option<Event>,
 }
 
 // The figures with that of the row after the first k; the level's stands for two fields.
@@ -49,7 +49,7 @@ fn field_of(k: usize) -> usize
     if k < typed::LEVEL {
         return k;
     }
-    if k < 28 {
+    if k < typed::COUNT {
         return k + 1;
     }
     sheet::COUNT
@@ -61,7 +61,7 @@ fn refused_by(figures: [u32; sheet::COUNT], fault: LineFault, row: usize) -> Ste
     Step {
         stage: Stage::Skipping,
         figures,
-        event: Event::Fault(fault, row),
+        event: Some(Event::Fault(fault, row)),
     }
 }
 
@@ -78,13 +78,13 @@ fn accepted_in(figures: [u32; sheet::COUNT], k: usize) -> Step
                 return Step {
                     stage: Stage::InRow(k + 1),
                     figures,
-                    event: Event::Nothing,
+                    event: None,
                 };
             }
             Step {
                 stage: Stage::Between,
                 figures,
-                event: Event::Sheet,
+                event: Some(Event::Sheet),
             }
         }
     }
@@ -94,37 +94,41 @@ fn accepted_in(figures: [u32; sheet::COUNT], k: usize) -> Step
 fn name_fault(k: usize, line: &[u8]) -> LineFault
     ensures { result ≡ name_fault k line.now }
 {
-    let named = typed::row_named(line);
-    if named == typed::COUNT {
-        return LineFault::NoName;
+    match typed::row_named(line) {
+        None => LineFault::NoName,
+        Some(named) if named < k => LineFault::Twice,
+        Some(_) => LineFault::Misplaced,
     }
-    if named < k {
-        return LineFault::Twice;
+}
+
+// Why a line in the place of the row after the first k has no figure, as it is told.
+fn told_of(fault: EntryFault, k: usize, line: &[u8]) -> LineFault
+    ensures { result ≡ told_of fault k line.now }
+{
+    match fault {
+        EntryFault::NoName => name_fault(k, line),
+        EntryFault::NoFigure => LineFault::NoFigure,
+        EntryFault::NoUnit => LineFault::NoUnit,
     }
-    LineFault::Misplaced
 }
 
 // A line in the place of the row after the first k.
 fn row_step(figures: [u32; sheet::COUNT], k: usize, line: &[u8]) -> Step
     ensures { result ≡ row_step figures k line.now }
 {
-    let entry = typed::read_line(k, line);
-    match entry {
+    match typed::read_line(k, line) {
         Ok(figure) => accepted_in(with_figure(figures, k, figure), k),
-        Err(EntryFault::NoName) => refused_by(figures, name_fault(k, line), k),
-        Err(EntryFault::NoFigure) => refused_by(figures, LineFault::NoFigure, k),
-        Err(EntryFault::NoUnit) => refused_by(figures, LineFault::NoUnit, k),
+        Err(fault) => refused_by(figures, told_of(fault, k, line), k),
     }
 }
 
 // What is missing where a sheet ends at a stage.
-fn missing_at(stage: Stage) -> Event
+fn missing_at(stage: Stage) -> Option<Event>
     ensures { result ≡ missing_at stage }
 {
     match stage {
-        Stage::InRow(k) => Event::Fault(LineFault::Missing, k),
-        Stage::Between => Event::Nothing,
-        Stage::Skipping => Event::Nothing,
+        Stage::InRow(k) => Some(Event::Fault(LineFault::Missing, k)),
+        Stage::Between | Stage::Skipping => None,
     }
 }
 
@@ -132,11 +136,10 @@ fn missing_at(stage: Stage) -> Event
 fn begin_step(stage: Stage, figures: [u32; sheet::COUNT]) -> Step
     ensures { result ≡ begin_step stage figures }
 {
-    let event = missing_at(stage);
     Step {
         stage: Stage::InRow(0),
         figures,
-        event,
+        event: missing_at(stage),
     }
 }
 
@@ -152,7 +155,7 @@ fn kept_step(stage: Stage, figures: [u32; sheet::COUNT], line: &[u8]) -> Step
         Stage::Skipping => Step {
             stage: Stage::Skipping,
             figures,
-            event: Event::Nothing,
+            event: None,
         },
         Stage::InRow(k) => row_step(figures, k, line),
     }
@@ -166,24 +169,13 @@ fn line_step(stage: Stage, figures: [u32; sheet::COUNT], line: &[u8]) -> Step
         return Step {
             stage,
             figures,
-            event: Event::Nothing,
+            event: None,
         };
     }
     kept_step(stage, figures, line)
 }
 
-// Whether something happened.
-pub fn happened(event: Event) -> bool
-    ensures { result ≡ happened_in event }
-{
-    match event {
-        Event::Nothing => false,
-        Event::Sheet => true,
-        Event::Fault(_, _) => true,
-    }
-}
-
-// One line more.
+// One line more. (The proof follows an array from one struct to the next only by a variable.)
 pub fn turn(text: &[u8], cursor: Cursor) -> Found
     requires { cursor.at < length text.now }
     ensures { (result ≡ turn_on (length text.now) cursor (line_of (drop cursor.at text.now))) × (cursor.at < result.cursor.at) }
@@ -192,15 +184,12 @@ pub fn turn(text: &[u8], cursor: Cursor) -> Found
     let end = cutting::line_end(text, start);
     let whole = &text[start..end];
     let bare = cutting::bare_length(whole);
-    let stage = cursor.stage;
     let figures = cursor.figures;
-    let step = line_step(stage, figures, &whole[..bare]);
+    let step = line_step(cursor.stage, figures, &whole[..bare]);
     let number = cutting::next_number(cursor.lines);
-    let later_stage = step.stage;
-    let later_figures = step.figures;
-    let event = step.event;
+    let figures = step.figures;
     Found {
-        event,
+        event: step.event,
         place: Place {
             line: number,
             start,
@@ -210,8 +199,8 @@ pub fn turn(text: &[u8], cursor: Cursor) -> Found
         cursor: Cursor {
             at: cutting::line_after(end, text.len()),
             lines: number,
-            stage: later_stage,
-            figures: later_figures,
+            stage: step.stage,
+            figures,
         },
     }
 }
@@ -220,11 +209,9 @@ pub fn turn(text: &[u8], cursor: Cursor) -> Found
 pub fn ended(cursor: Cursor) -> Found
     ensures { result ≡ ended_at cursor }
 {
-    let stage = cursor.stage;
     let figures = cursor.figures;
-    let event = missing_at(stage);
     Found {
-        event,
+        event: missing_at(cursor.stage),
         place: Place {
             line: cutting::next_number(cursor.lines),
             start: cursor.at,

@@ -1,16 +1,18 @@
 -- The first line of a text, byte by byte; a line without a carriage return, and that it is the front of its text; one that is passed over.
 use mathlib.Core.Path.{◌≡◌, refl, ap, sym, ◌∙◌}
-use mathlib.Core.Bool.{Bool, true, false}
+use mathlib.Core.Bool.{Bool, true, false, ◌&&◌}
 use mathlib.Core.List.{List, [], ◌∷◌}
-use Prim.Native.Nat.{ℕ, suc, ◌+◌, ◌≤◌, ◌<◌}
+use Prim.Native.Nat.{ℕ, suc, ◌+◌, ◌-◌, ◌≤◌, ◌<◌, min}
 use native.Mathlib.Numerals.{add-one}
 use native.Mathlib.Omega.{arith}
-use borrow.Author.Tests.{eq-eqb, ne_eqb}
-use lib.Dec.{eqb}
-use lib.ListN.{length, take, drop, get_or}
+use borrow.Author.Tests.{eq-eqb, ne_eqb, eqb-true, eqb-false, ltb-true, ltb-false}
+use lib.Dec.{eqb, ltb}
+use lib.ListN.{length, take, drop, get_or, drop_of_length-le}
+use lib.Pointwise.{pointwise}
 use lib.Seq.{take-take, drop-cons}
+use Rattle.laws.proofs.Never.{never}
 use Rattle.laws.specs.Choice.{ifᵇ◌then◌else◌}
-use Rattle.texts.specs.Cutting.{newline, return, hash, line_of, bare, blank, passed_over}
+use Rattle.texts.specs.Cutting.{newline, return, hash, line_of, bare, blank, passed_over, next_number}
 
 -- what stands from a place on, where something does
 pub from_place : (l : List ℕ) (j : ℕ) → j < length l → drop j l ≡ get_or l j 0 ∷ drop (j + 1) l
@@ -73,6 +75,40 @@ bare_same (b ∷ []) n e f =
 bare_same (b ∷ c ∷ line) n e f =
     let z : n ≡ suc (length line) = omega arith in
     ap (λ (l : List ℕ). b ∷ l) (bare_same (c ∷ line) (length line) (omega arith) (rw z at f))
+
+-- a line ends in a carriage return where its last byte is one
+last_byte : (line : List ℕ) (n : ℕ) → length line ≡ n + 1 → pointwise eqb (return ∷ []) (drop n line) ≡ eqb return (get_or line n 0)
+last_byte line n e =
+    rw (from_place line n (omega arith), drop_of_length-le line {i = n + 1} (omega arith)) (go (eqb return (get_or line n 0)))
+  where
+    go : (t : Bool) → (t && true) ≡ t
+    go true = refl
+    go false = refl
+
+pub bare_cut : (line : List ℕ) → pointwise eqb (return ∷ []) (drop (length line - 1) line) ≡ true
+    → (bare line ≡ take (length line - 1) line) × (length (bare line) ≡ length line - 1) × (1 ≤ length line)
+bare_cut [] e = never (cc)
+bare_cut (b ∷ line) e =
+    let z : length (b ∷ line) - 1 ≡ length line = omega arith in
+    let same = eqb-true return (get_or (b ∷ line) (length line) 0) (sym (last_byte (b ∷ line) (length line) (omega arith)) ∙ rw z at e) in
+    let r = bare_return (b ∷ line) (length line) (omega arith) (sym same) in
+    rw z (r.0, r.1, omega arith)
+
+pub bare_kept : (line : List ℕ) → pointwise eqb (return ∷ []) (drop (length line - 1) line) ≡ false → bare line ≡ line
+bare_kept [] e = bare_none [] refl
+bare_kept (b ∷ line) e =
+    let z : length (b ∷ line) - 1 ≡ length line = omega arith in
+    let other = eqb-false return (get_or (b ∷ line) (length line) 0) (sym (last_byte (b ∷ line) (length line) (omega arith)) ∙ rw z at e) in
+    bare_same (b ∷ line) (length line) (omega arith) (λ same. other (sym same))
+
+-- a number of 32 bits, and the next
+pub next_is : (lines : ℕ) → lines < 4294967296 → min (lines + 1) 4294967295 ≡ next_number lines
+unfolding next_number
+next_is lines h = go (ltb lines 4294967295) refl
+  where
+    go : (t : Bool) → ltb lines 4294967295 ≡ t → min (lines + 1) 4294967295 ≡ (ifᵇ t then lines + 1 else lines)
+    go true e = let l = ltb-true lines 4294967295 e in omega arith
+    go false e = let l = ltb-false lines 4294967295 e in omega arith
 
 -- a line is the front of its text, and without its carriage return the front of the line
 pub line_front : (text : List ℕ) → take (length (line_of text)) text ≡ line_of text

@@ -1,5 +1,6 @@
 -- A text whose kept lines are those of some sheets has no fault, and these are its sheets.
 -- By going down the sheets and, in each, down its rows.
+use Rattle.std.specs.Prelude.{Some, None}
 use mathlib.Core.Path.{◌≡◌, refl, ap, sym, ◌∙◌}
 use mathlib.Core.Bool.{Bool, true, false, ◌||◌, not}
 use mathlib.Core.List.{List, [], ◌∷◌, ◌++◌}
@@ -23,7 +24,7 @@ use Rattle.texts.specs.Shown.{row_figure}
 use Rattle.texts.specs.Steps.{stored, field_of, step, accepted_in, row_step, step_of}
 use Rattle.texts.specs.Texts.{beginning, all_of}
 use Rattle.texts.specs.Typed.{sheets_of, Faultless, row_lines, sheet_lines, Titled, lines_of_all, figures_of_all, SheetFigures, Proper, TypedAs}
-use Rattle.texts.specs.declared.Event.TheVariants.{Nothing, Sheet}
+use Rattle.texts.specs.declared.Event.TheVariants.{Sheet}
 use Rattle.texts.specs.declared.Stage.{Stage}
 use Rattle.texts.specs.declared.Stage.TheVariants.{Between, InRow}
 use Rattle.texts.proofs.meaning.Filling.{RowCase, before_level, at_level, behind_level, row_case, filled, field_of_lem, Agree, stored_length, stored_before, stored_before_level, source_stored, level_stored, last_stored, bad_same, not_bad_fine, not_bad_within, level_within, first_none_bad}
@@ -101,11 +102,11 @@ pub record Brings (stage : Stage) (figures : List ℕ) (lines : List (List ℕ))
 
 -- one line more in front of them: it brings nothing, or the sheet
 module _ (stage : Stage) (figures line : List ℕ) (v : List ℕ) (rest : List (List ℕ)) where
-  more_lines : (next : Stage) (later : List ℕ) (lines : List (List ℕ)) → step_of stage figures line ≡ step next later Nothing
+  more_lines : (next : Stage) (later : List ℕ) (lines : List (List ℕ)) → step_of stage figures line ≡ step next later None
       → Brings next later lines v rest → Brings stage figures (line ∷ lines) v rest
   more_lines next later lines on b = record { clear = λ c. rw on (tt, b.clear c); sheets = rw on b.sheets }
 
-  last_line : step_of stage figures line ≡ step Between v Sheet → Brings stage figures (line ∷ rest) v rest
+  last_line : step_of stage figures line ≡ step Between v (Some Sheet) → Brings stage figures (line ∷ rest) v rest
   last_line on = record { clear = λ c. rw on (tt, c); sheets = rw on }
 
 first_row : (v : List ℕ) (k m : ℕ) → row_lines v k (suc m) ≡ line_text k (row_figure v k) ∷ row_lines v (k + 1) m

@@ -1,4 +1,5 @@
 -- A text read by the lines that it keeps: places and numbers of lines aside, what it brings comes from these alone.
+use Rattle.std.specs.Prelude.{Option, Some, None}
 use mathlib.Core.Path.{◌≡◌, refl, ◌∙◌}
 use mathlib.Core.Bool.{Bool, true, false}
 use mathlib.Core.List.{List, [], ◌∷◌, ◌++◌, append_assoc}
@@ -12,17 +13,17 @@ use Rattle.texts.specs.Texts.{beginning, happened_in, if_happened, found_by, tur
 use Rattle.texts.specs.Typed.{kept_of, kept, fault_in, faults_of, sheet_in, sheets_of, Faultless}
 use Rattle.texts.specs.declared.Cursor.{Cursor}
 use Rattle.texts.specs.declared.Event.{Event}
-use Rattle.texts.specs.declared.Event.TheVariants.{Nothing, Sheet, Fault}
+use Rattle.texts.specs.declared.Event.TheVariants.{Sheet, Fault}
 use Rattle.texts.specs.declared.Found.{Found}
 use Rattle.texts.specs.declared.Stage.{Stage}
 use Rattle.texts.specs.declared.Stage.TheVariants.{Between, InRow, Skipping}
 use Rattle.texts.specs.declared.steps.Step.{Step}
 
 -- what a line brings is no fault
-abbrev pub NoFault : Event → Type 0
-NoFault Nothing = Unit {0}
-NoFault Sheet = Unit {0}
-NoFault (Fault fault row) = ⊥
+abbrev pub NoFault : Option Event → Type 0
+NoFault None = Unit {0}
+NoFault (Some Sheet) = Unit {0}
+NoFault (Some (Fault fault row)) = ⊥
 
 -- kept lines bring no fault, read from a stage on
 abbrev pub Clear : Stage → List ℕ → List (List ℕ) → Type 0
@@ -53,31 +54,31 @@ faults_happened : (found : Found) → faults_of (if_happened found) ≡ fault_in
 unfolding faults_of
 faults_happened found = go found.event refl
   where
-    go : (e : Event) → found.event ≡ e → faults_of (ifᵇ happened_in e then found ∷ [] else []) ≡ fault_in e found
-    go Nothing p = refl
-    go Sheet p = rw p
-    go (Fault fault row) p = rw p
+    go : (e : Option Event) → found.event ≡ e → faults_of (ifᵇ happened_in e then found ∷ [] else []) ≡ fault_in e found
+    go None p = refl
+    go (Some Sheet) p = rw p
+    go (Some (Fault fault row)) p = rw p
 
 sheets_happened : (found : Found) → sheets_of (if_happened found) ≡ sheet_in found.event found.cursor.figures
 unfolding sheets_of
 sheets_happened found = go found.event refl
   where
-    go : (e : Event) → found.event ≡ e → sheets_of (ifᵇ happened_in e then found ∷ [] else []) ≡ sheet_in e found.cursor.figures
-    go Nothing p = refl
-    go Sheet p = rw p
-    go (Fault fault row) p = rw p
+    go : (e : Option Event) → found.event ≡ e → sheets_of (ifᵇ happened_in e then found ∷ [] else []) ≡ sheet_in e found.cursor.figures
+    go None p = refl
+    go (Some Sheet) p = rw p
+    go (Some (Fault fault row)) p = rw p
 
 -- no fault on a line and none behind it
-no_faults : (event : Event) (found : Found) (rest : List Found) → (fault_in event found ++ rest ≡ []) ↔ (NoFault event × (rest ≡ []))
-no_faults Nothing found rest = (λ e. (tt, e), λ p. p.1)
-no_faults Sheet found rest = (λ e. (tt, e), λ p. p.1)
-no_faults (Fault fault row) found rest = (λ e. never cc, λ p. absurd p.0)
+no_faults : (event : Option Event) (found : Found) (rest : List Found) → (fault_in event found ++ rest ≡ []) ↔ (NoFault event × (rest ≡ []))
+no_faults None found rest = (λ e. (tt, e), λ p. p.1)
+no_faults (Some Sheet) found rest = (λ e. (tt, e), λ p. p.1)
+no_faults (Some (Fault fault row)) found rest = (λ e. never cc, λ p. absurd p.0)
 
 -- a line that is passed over, and one that is kept
 module _ (bytes : ℕ) (c : Cursor) (line : List ℕ) (lines : List (List ℕ)) where
   -- where the reading goes on behind a line
   abbrev pub behind_passed : Cursor
-  behind_passed = (found_by bytes c line (step c.stage c.figures Nothing)).cursor
+  behind_passed = (found_by bytes c line (step c.stage c.figures None)).cursor
 
   abbrev pub found_kept : Found
   found_kept = found_by bytes c line (step_of c.stage c.figures (bare line))
@@ -121,10 +122,10 @@ ended_clear : (c : Cursor) → (faults_of (if_happened (ended_at c)) ≡ []) ↔
 unfolding ended_at
 ended_clear c = rw (faults_happened (ended_at c)) (go (missing_at c.stage))
   where
-    go : (e : Event) → (fault_in e (ended_at c) ≡ []) ↔ NoFault e
-    go Nothing = (λ e. tt, λ t. refl)
-    go Sheet = (λ e. tt, λ t. refl)
-    go (Fault fault row) = (λ e. never cc, λ t. absurd t)
+    go : (e : Option Event) → (fault_in e (ended_at c) ≡ []) ↔ NoFault e
+    go None = (λ e. tt, λ t. refl)
+    go (Some Sheet) = (λ e. tt, λ t. refl)
+    go (Some (Fault fault row)) = (λ e. never cc, λ t. absurd t)
 
 -- the sheets that lines bring are those of the kept lines
 sheets_in : (bytes : ℕ) (c : Cursor) (lines : List (List ℕ)) → sheets_of (all_in bytes c lines) ≡ sheets_from c.stage c.figures (kept_of lines)

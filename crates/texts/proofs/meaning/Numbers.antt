@@ -1,6 +1,6 @@
 -- The numbers that turn a line away: each is told exactly when it holds and none before it does.
 -- The tests of a line are a chain; each test is led back to what the definition says of the line.
-use Rattle.std.specs.Prelude.{Result, Ok, Err}
+use Rattle.std.specs.Prelude.{Result, Ok, Err, Option, Some, None}
 use mathlib.Core.Path.{◌≡◌, refl, sym, ◌∙◌}
 use mathlib.Core.Bool.{Bool, true, false, ◌||◌, ◌&&◌, not, or-true, beq}
 use mathlib.Core.List.{List, [], ◌∷◌}
@@ -25,11 +25,11 @@ use Rattle.typed.specs.declared.EntryFault.TheVariants.{NoName as NameMissing, N
 use Rattle.typed.proofs.Promises.{never_two_names, row_named_exactly, no_row_named_exactly, row_named_within, no_name, no_figure, no_unit, figure}
 use Rattle.typed.proofs.meaning.Ways.{row_front}
 use Rattle.texts.specs.Cutting.{begins_sheet}
-use Rattle.texts.specs.Steps.{stored, field_of, step, accepted_by, accepted_in, name_fault, row_step_by, row_step, step_of}
+use Rattle.texts.specs.Steps.{stored, field_of, step, accepted_by, accepted_in, name_fault_by, name_fault, row_step_by, row_step, step_of}
 use Rattle.texts.specs.Typed.{event_number, figure_at, Disagree, line_rows, RefusedAt}
 use Rattle.texts.specs.declared.Event.{Event}
-use Rattle.texts.specs.declared.Event.TheVariants.{Nothing, Sheet, Fault}
-use Rattle.texts.specs.declared.LineFault.TheVariants.{NoName, Twice, Misplaced, NoFigure, NoUnit, OutOfRange, Disagrees}
+use Rattle.texts.specs.declared.Event.TheVariants.{Sheet, Fault}
+use Rattle.texts.specs.declared.LineFault.TheVariants.{Twice, Misplaced, NoFigure, NoUnit, OutOfRange, Disagrees}
 use Rattle.texts.specs.declared.Stage.TheVariants.{Between, InRow, Skipping}
 use Rattle.texts.proofs.meaning.Filling.{RowCase, before_level, at_level, behind_level, row_case, field_of_lem, stored_before_level, source_stored, level_stored, last_stored}
 use Rattle.texts.proofs.meaning.Sound.{begin_step_lem, other_step_lem}
@@ -144,7 +144,7 @@ pair_test k turn n true p =
 pair_test k turn n false p = (λ e. never cc, λ e d. eqb-false k 25 p d.0)
 
 -- what is told of a line: its number
-abbrev pub telling : Call Event
+abbrev pub telling : Call (Option Event)
 telling = bare event_number
 
 -- the rows of a figure that was read
@@ -164,7 +164,7 @@ module _ (figures : List ℕ) (k : ℕ) (h : k < count) (long : length figures �
       v : List ℕ
       v = stored figures k n
 
-      done : (b : Bool) → event_number (ifᵇ b then step (InRow (k + 1)) v Nothing else step Between v Sheet).event ≡ 0
+      done : (b : Bool) → event_number (ifᵇ b then step (InRow (k + 1)) v None else step Between v (Some Sheet)).event ≡ 0
       done true = refl
       done false = refl
 
@@ -218,32 +218,32 @@ module _ (figures : List ℕ) (k : ℕ) (line : List ℕ) (h : k < count) (long 
   no_other : named line k ≡ true → (i : ℕ) → i < count → i ≢ k → named line i ≡ true → ⊥
   no_other own i l d other = never_both _ other (never_two_names line k i h l (λ (e : k ≡ i). d (sym e)) own)
 
-  name_told : named line k ≡ false → Told telling (name_rows k figures line) (Fault (name_fault k line) k)
+  name_told : named line k ≡ false → Told telling (name_rows k figures line) (Some (Fault (name_fault k line) k))
   unfolding name_fault
-  name_told not_own = go (eqb (row_named line) count) refl
+  name_told not_own = go (row_named line) refl
     where
-      its_own : (i : ℕ) → i < count → named line i ≡ true → row_named line ≡ i
-      its_own i l t = (row_named_exactly line i l).1 t
-
-      placed : row_named line < count → (b : Bool) → ltb (row_named line) k ≡ b
+      placed : (i : ℕ) → row_named line ≡ Some i → i < count → (b : Bool) → ltb i k ≡ b
           → Told telling
           ((4 when ((i : ℕ) × (i < k) × (named line i ≡ true)))
           ∷ (5 when ((i : ℕ) × (k < i) × (i < count) × (named line i ≡ true)))
           ∷ behind_rows k figures line)
-          (Fault (ifᵇ b then Twice else Misplaced) k)
-      placed some true p = stop (row_named line, ltb-true (row_named line) k p, (row_named_exactly line (row_named line) some).0 refl) (refl, tt)
-      placed some false p =
-          let l : k ≤ row_named line = ltb-false (row_named line) k p in
-          let d : row_named line ≡ k → ⊥ = λ e. never_both _ ((row_named_exactly line k h).0 e) not_own in
-          past (λ t. let i : t.0 < k = t.1 in omega (arith, its_own t.0 (omega arith) t.2))
-          (stop (row_named line, omega arith, some, (row_named_exactly line (row_named line) some).0 refl) (refl, tt))
+          (Some (Fault (ifᵇ b then Twice else Misplaced) k))
+      placed i e some true p = stop (i, ltb-true i k p, (row_named_exactly line i some).0 e) (refl, tt)
+      placed i e some false p =
+          let l : k ≤ i = ltb-false i k p in
+          let d : i ≡ k → ⊥ = λ s. never_both _ (rw s at ((row_named_exactly line i some).0 e)) not_own in
+          past (λ t.
+          let j : t.0 < k = t.1 in
+          let named_both : Some i ≡ Some t.0 = sym e ∙ (row_named_exactly line t.0 (omega arith)).1 t.2 in
+          let one : i ≡ t.0 = cc in
+          omega arith)
+          (stop (i, omega arith, some, (row_named_exactly line i some).0 e) (refl, tt))
 
-      go : (b : Bool) → eqb (row_named line) count ≡ b
-          → Told telling (name_rows k figures line) (Fault (ifᵇ b then NoName else (ifᵇ row_named line <ᵇ k then Twice else Misplaced)) k)
-      go true p = stop ((no_row_named_exactly line).0 (eqb-true (row_named line) count p)) (refl, tt)
-      go false p =
-          let d : row_named line ≡ count → ⊥ = eqb-false (row_named line) count p in
-          past (λ none. d ((no_row_named_exactly line).1 none)) (placed (omega (arith, row_named_within line)) (ltb (row_named line) k) refl)
+      go : (r : Option ℕ) → row_named line ≡ r → Told telling (name_rows k figures line) (Some (Fault (name_fault_by r k) k))
+      go None e = stop ((no_row_named_exactly line).0 e) (refl, tt)
+      go (Some i) e =
+          past (λ none. never_both _ ((row_named_exactly line i (row_named_within line i e)).0 e) (none i (row_named_within line i e)))
+          (placed i e (row_named_within line i e) (ltb i k) refl)
 
   row_told : Told telling (name_rows k figures line) (row_step figures k line).event
   unfolding row_step
@@ -277,7 +277,7 @@ number_1_exactly figures line = go (begins_sheet line) refl
     go false e = rw (other_step_lem Between figures line e) (λ p. refl, λ p. refl)
 
 -- behind a fault a line that begins no sheet brings nothing
-pub skipped : (figures line : List ℕ) → begins_sheet line ≡ false → step_of Skipping figures line ≡ step Skipping figures Nothing
+pub skipped : (figures line : List ℕ) → begins_sheet line ≡ false → step_of Skipping figures line ≡ step Skipping figures None
 skipped figures line e = other_step_lem Skipping figures line e
 
 -- where a row was to stand a line brings no fault, or is turned away
@@ -287,8 +287,8 @@ module _ (figures : List ℕ) (k : ℕ) (line : List ℕ) where
   accepted_way DisagreesThere v = inr (record { fault = Disagrees; told = refl; then_skips = refl })
   accepted_way Fine v = go (k <ᵇ 27)
     where
-      go : (b : Bool) → (event_number (ifᵇ b then step (InRow (k + 1)) v Nothing else step Between v Sheet).event ≡ 0)
-          ⊎ RefusedAt k (ifᵇ b then step (InRow (k + 1)) v Nothing else step Between v Sheet)
+      go : (b : Bool) → (event_number (ifᵇ b then step (InRow (k + 1)) v None else step Between v (Some Sheet)).event ≡ 0)
+          ⊎ RefusedAt k (ifᵇ b then step (InRow (k + 1)) v None else step Between v (Some Sheet))
       go true = inl refl
       go false = inl refl
 

@@ -1,6 +1,6 @@
 -- The kept lines of a text without a fault are the lines of its sheets.
 -- By going down the lines: the figures of a sheet are filled row by row, and no later row changes those before.
-use Rattle.std.specs.Prelude.{Result, Ok, Err}
+use Rattle.std.specs.Prelude.{Result, Ok, Err, Some, None}
 use mathlib.Core.Path.{◌≡◌, refl, ap, ◌∙◌}
 use mathlib.Core.Bool.{Bool, true, false}
 use mathlib.Core.List.{List, [], ◌∷◌, ◌++◌}
@@ -24,7 +24,7 @@ use Rattle.texts.specs.Shown.{row_figure}
 use Rattle.texts.specs.Steps.{stored, field_of, step, accepted_by, accepted_in, row_step_by, row_step, missing_at, begin_step, other_step, step_of}
 use Rattle.texts.specs.Texts.{beginning, all_of}
 use Rattle.texts.specs.Typed.{kept, sheets_of, Faultless, row_lines, sheet_lines, Titled, lines_of_all, figures_of_all, SheetFigures, Proper, TypedAs}
-use Rattle.texts.specs.declared.Event.TheVariants.{Nothing, Sheet}
+use Rattle.texts.specs.declared.Event.TheVariants.{Sheet}
 use Rattle.texts.specs.declared.Stage.{Stage}
 use Rattle.texts.specs.declared.Stage.TheVariants.{Between, InRow, Skipping}
 use Rattle.texts.specs.declared.steps.Step.{Step}
@@ -43,7 +43,7 @@ other_step_lem stage figures line e = rw e
 
 -- the step of a row's line: on to the next row, or the sheet is whole
 abbrev pub row_done : List ℕ → ℕ → Step
-row_done figures k = ifᵇ k <ᵇ 27 then step (InRow (k + 1)) figures Nothing else step Between figures Sheet
+row_done figures k = ifᵇ k <ᵇ 27 then step (InRow (k + 1)) figures None else step Between figures (Some Sheet)
 
 -- a line in the place of a row that brings no fault says a figure that stands well
 pub record RowRead (figures : List ℕ) (k : ℕ) (line : List ℕ) (s : Step) : Type 0 where
@@ -166,7 +166,7 @@ module _ (k : ℕ) (figures line : List ℕ) (lines : List (List ℕ)) (so : SoF
       rw (row_in_front done k so.within, ← line_of done agree) (ap (λ (l : List (List ℕ)). line ∷ l) e)
 
   -- others of its sheet follow
-  next_row : step_of (InRow k) figures line ≡ step (InRow (k + 1)) after Nothing → Rest (k + 1) after lines → Rest k figures (line ∷ lines)
+  next_row : step_of (InRow k) figures line ≡ step (InRow (k + 1)) after None → Rest (k + 1) after lines → Rest k figures (line ∷ lines)
   next_row on r =
       record {
         done = r.done;
@@ -179,7 +179,7 @@ module _ (k : ℕ) (figures line : List ℕ) (lines : List (List ℕ)) (so : SoF
       }
 
   -- it is the last, and the sheet is whole
-  last_row : k ≡ 27 → step_of (InRow k) figures line ≡ step Between after Sheet → Whole after lines → Rest k figures (line ∷ lines)
+  last_row : k ≡ 27 → step_of (InRow k) figures line ≡ step Between after (Some Sheet) → Whole after lines → Rest k figures (line ∷ lines)
   last_row end on r =
       record {
         done = after;
@@ -200,7 +200,7 @@ rowed k figures line lines clear further so = go (ltb k 27) refl (row_read figur
     go : (b : Bool) → ltb k 27 ≡ b → RowRead figures k line (step_of (InRow k) figures line) → Rest k figures (line ∷ lines)
     go true p read =
         let more : k < 27 = ltb-true k 27 p in
-        let on : step_of (InRow k) figures line ≡ step (InRow (k + 1)) (stored figures k read.figure) Nothing = rw p at read.goes_on in
+        let on : step_of (InRow k) figures line ≡ step (InRow (k + 1)) (stored figures k read.figure) None = rw p at read.goes_on in
         next_row k figures line lines so _ read on
         (further (InRow (k + 1)) _ (rw on at clear.1)
         (record {
@@ -210,7 +210,7 @@ rowed k figures line lines clear further so = go (ltb k 27) refl (row_read figur
         }))
     go false p read =
         let end : k ≡ 27 = omega (arith, ltb-false k 27 p, so.within) in
-        let on : step_of (InRow k) figures line ≡ step Between (stored figures k read.figure) Sheet = rw p at read.goes_on in
+        let on : step_of (InRow k) figures line ≡ step Between (stored figures k read.figure) (Some Sheet) = rw p at read.goes_on in
         last_row k figures line lines so _ read end on
         (further Between _ (rw on at clear.1) (after_long k figures line lines so _ read))
 

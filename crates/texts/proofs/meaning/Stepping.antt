@@ -1,4 +1,5 @@
 -- A text read step by step: each step finds the first of what is left, and what it leaves is the rest.
+use Rattle.std.specs.Prelude.{Option, Some, None, is_some}
 use mathlib.Core.Path.{◌≡◌, refl}
 use mathlib.Core.Bool.{Bool, true, false}
 use mathlib.Core.List.{List, [], ◌∷◌, ◌++◌}
@@ -14,9 +15,15 @@ use Rattle.texts.specs.Cutting.{line_of}
 use Rattle.texts.specs.Texts.{beginning, happened_in, if_happened, turn_on, ended_at, found_in, next_of, all_in, all_of}
 use Rattle.texts.specs.Typed.{all_from}
 use Rattle.texts.specs.declared.Cursor.{Cursor}
+use Rattle.texts.specs.declared.Event.{Event}
 use Rattle.texts.specs.declared.Found.{Found}
 use Rattle.texts.specs.declared.Stage.TheVariants.{Between}
 use Rattle.texts.proofs.meaning.Cuts.{place_behind, lines_from, lines_end, place_on}
+
+-- something is found exactly where an event stands
+pub is_happened : (event : Option Event) → is_some event ≡ happened_in event
+is_happened None = refl
+is_happened (Some event) = refl
 
 module _ (text : List ℕ) where
   -- what the line at a cursor brings

@@ -8,7 +8,7 @@ use Rattle.texts.proofs.name_after.Goals as goal
 
 pub loop-at-init : goal.loop-at-init
 unfolding name_after
-loop-at-init c = (omega arith, ap (name_at c.args.text.now) c.least-at.ensures)
+loop-at-init c = (omega arith, ap (name_at c.args.text.now) c.min-at.ensures)
 
 pub returns-then-begins_sheet : goal.returns-then-begins_sheet
 returns-then-begins_sheet c =
@@ -17,7 +17,7 @@ returns-then-begins_sheet c =
     let end = c.line_end-end in
     let bare = c.bare_length-bare in
     let e = named text l.at end.result end.ensures.0 (omega arith) bare.result bare.ensures.0 bare.ensures.1 (omega arith) _ c.begins_sheet.ensures in
-    (ap (λ (n : ℕ). span (l.at + n) (l.at + bare.result)) c.least.ensures ∙ sym (rw c.if-begins_sheet.true at e) ∙ l.invariant.1, (omega arith, omega arith))
+    (ap (λ (n : ℕ). span (l.at + n) (l.at + bare.result)) c.min.ensures ∙ sym (rw c.if-begins_sheet.true at e) ∙ l.invariant.1, (omega arith, omega arith))
 
 pub loop-at-preserved : goal.loop-at-preserved
 loop-at-preserved c =

@@ -7,6 +7,6 @@ pub returns-then-byte-eq-SPACE : goal.returns-then-byte-eq-SPACE
 unfolding blank
 returns-then-byte-eq-SPACE c = rw (eq-eqb _ _ c.if-byte-eq-SPACE.true)
 
-pub returns : goal.returns
+pub returns-else-byte-eq-SPACE : goal.returns-else-byte-eq-SPACE
 unfolding blank
-returns c = rw (ne_eqb _ _ c.if-byte-eq-SPACE.false)
+returns-else-byte-eq-SPACE c = rw (ne_eqb _ _ c.if-byte-eq-SPACE.false)

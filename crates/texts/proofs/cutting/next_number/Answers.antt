@@ -1,12 +1,8 @@
--- `texts::cutting::next_number` meets its contract: both ways out are cases of `next_number`.
-use borrow.Author.Tests.{lt-ltb, le-ltb}
-use Rattle.texts.specs.Cutting.{next_number}
+-- `texts::cutting::next_number` meets its contract: a sum that stops at the greatest number of 32 bits.
+use mathlib.Core.Path.{◌∙◌}
+use native.Mathlib.Omega.{arith}
+use Rattle.texts.proofs.cutting.Lines.{next_is}
 use Rattle.texts.proofs.cutting.next_number.Goals as goal
 
-pub returns-then-lines-lt4294967295 : goal.returns-then-lines-lt4294967295
-unfolding next_number
-returns-then-lines-lt4294967295 c = rw (lt-ltb _ _ c.if-lines-lt4294967295.true)
-
 pub returns : goal.returns
-unfolding next_number
-returns c = rw (le-ltb _ _ c.if-lines-lt4294967295.false)
+returns c = c.saturating_add.ensures ∙ next_is c.args.lines (omega arith)

@@ -12,5 +12,5 @@ pub returns : goal.returns
 unfolding stood_text
 returns c =
     let a = c.args in
-    let stood = rw (c.least-start.ensures, c.least-end.ensures, same_part a.text.now a.place.start a.place.end) at c.put_quoted.ensures.0 in
+    let stood = rw (c.min-start.ensures, c.min-end.ensures, same_part a.text.now a.place.start a.place.end) at c.put_quoted.ensures.0 in
     rw c.if-place.false (stood, omega arith)

@@ -4,4 +4,4 @@ use Rattle.texts.proofs.steps.begin_step.Goals as goal
 
 pub returns : goal.returns
 unfolding begin_step
-returns c = rw c.missing_at-event.ensures
+returns c = rw c.missing_at.ensures

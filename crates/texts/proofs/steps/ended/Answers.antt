@@ -4,4 +4,4 @@ use Rattle.texts.proofs.steps.ended.Goals as goal
 
 pub returns : goal.returns
 unfolding ended_at
-returns c = rw (c.missing_at-event.ensures, c.next_number.ensures)
+returns c = rw (c.missing_at.ensures, c.next_number.ensures)

@@ -7,10 +7,10 @@ pub returns-then-k-lt-LEVEL : goal.returns-then-k-lt-LEVEL
 unfolding field_of
 returns-then-k-lt-LEVEL c = rw (lt-ltb _ _ c.if-k-lt-LEVEL.true)
 
-pub returns-then-k-lt28 : goal.returns-then-k-lt28
+pub returns-then-k-lt-COUNT : goal.returns-then-k-lt-COUNT
 unfolding field_of
-returns-then-k-lt28 c = rw (le-ltb _ _ c.if-k-lt-LEVEL.false, lt-ltb _ _ c.if-k-lt28.true)
+returns-then-k-lt-COUNT c = rw (le-ltb _ _ c.if-k-lt-LEVEL.false, lt-ltb _ _ c.if-k-lt-COUNT.true)
 
 pub returns : goal.returns
 unfolding field_of
-returns c = rw (le-ltb _ _ c.if-k-lt-LEVEL.false, le-ltb _ _ c.if-k-lt28.false)
+returns c = rw (le-ltb _ _ c.if-k-lt-LEVEL.false, le-ltb _ _ c.if-k-lt-COUNT.false)
