@@ -1,3 +1,4 @@
+mod putting
 -- Typed texts.
 pub mod meaning
 pub mod Promises

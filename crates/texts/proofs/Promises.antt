@@ -1,6 +1,5 @@
 -- What typed texts promise, in the definition's words (section 14). Each proof stands where it is cited.
-use Rattle.std.specs.Prelude.{None}
-use Rattle.sheet.specs.declared.SheetRead.TheVariants.{Good, NoSheet}
+use Rattle.std.specs.Prelude.{Ok, Err, None}
 use mathlib.Core.Path.{◌≡◌, sym, ◌∙◌}
 use mathlib.Core.Bool.{true, false}
 use mathlib.Core.List.{List, [], ◌∷◌, ◌++◌, map, flatten, Memᴰ}
@@ -155,7 +154,7 @@ pub every_line_means : (text : List ℕ) → Faultless text → (line : List ℕ
 every_line_means = each_line
 
 -- Shown and typed again: the text of a sheet's bytes is accepted, has its figures, and its bytes are those that were shown.
-pub shown_is_accepted : (index : ℕ) (bytes : List ℕ) (s : Sheet) → read_of bytes ≡ Good s
+pub shown_is_accepted : (index : ℕ) (bytes : List ℕ) (s : Sheet) → read_of bytes ≡ Ok s
     → Faultless (shown_text index bytes) × (sheets_of (all_of (shown_text index bytes)) ≡ figures_of s ∷ [])
 shown_is_accepted = one_typed
 
@@ -163,7 +162,7 @@ pub shown_and_typed : (index : ℕ) (bytes : List ℕ) → IsSheet bytes → Byt
 shown_and_typed = one_again
 
 -- Bytes that are no sheet are never silently typed: their text has a fault.
-pub shown_refused : (index : ℕ) (bytes : List ℕ) (fault : ReadFault) → read_of bytes ≡ NoSheet fault → Faultless (shown_text index bytes) → ⊥
+pub shown_refused : (index : ℕ) (bytes : List ℕ) (fault : ReadFault) → read_of bytes ≡ Err fault → Faultless (shown_text index bytes) → ⊥
 shown_refused = one_refused
 
 -- The same of many, one behind another.

@@ -1,5 +1,5 @@
 -- Bytes shown as text, the bytes of figures, and the empty form (sections 14.5 and 14.6).
-use Rattle.std.specs.Prelude.{ℕ, zero, suc, ◌+◌, ◌%◌, List, [], ◌∷◌, ◌++◌, get_or}
+use Rattle.std.specs.Prelude.{ℕ, zero, suc, ◌+◌, ◌%◌, List, [], ◌∷◌, ◌++◌, get_or, Result, Ok, Err}
 use Rattle.laws.specs.Choice.{ifᵇ◌then◌else◌, ◌<ᵇ◌, ◌=ᵇ◌}
 use Rattle.lines.specs.Decimals.{count_text}
 use Rattle.sheet.specs.Fields.{first_bad}
@@ -7,11 +7,10 @@ use Rattle.sheet.specs.Packing.{size, bytes_of as packed_of}
 use Rattle.sheet.specs.Sheets.{figures_of, read_of}
 use Rattle.sheet.specs.Refusals.{read_fault_number, read_fault_field}
 use Rattle.sheet.specs.declared.ReadFault.{ReadFault}
-use Rattle.sheet.specs.declared.SheetRead.{SheetRead}
-use Rattle.sheet.specs.declared.SheetRead.TheVariants.{Good, NoSheet}
 use Rattle.typed.specs.Rows.{bytes_of, count, level_row}
 use Rattle.typed.specs.Lines.{line_text, blank_text, expected_text}
 use Rattle.texts.specs.Cutting.{newline, space}
+use Rattle.sheet.specs.declared.Sheet.{Sheet}
 
 -- the bytes that a shown sheet is given, the form, and the bytes of a sheet
 abbrev pub shown_bytes : ℕ
@@ -46,9 +45,9 @@ refused_text fault =
     (((bytes_of "refused " ++ count_text (read_fault_number fault)) ++ space ∷ []) ++ count_text (read_fault_field fault)) ++ newline ∷ []
 
 -- what bytes are read as
-abbrev pub read_text : SheetRead → List ℕ
-read_text (Good s) = rows_text (figures_of s) 0 count
-read_text (NoSheet fault) = refused_text fault
+abbrev pub read_text : Result Sheet ReadFault → List ℕ
+read_text (Ok s) = rows_text (figures_of s) 0 count
+read_text (Err fault) = refused_text fault
 
 -- bytes as the sheet of an index
 unfoldable pub shown_text : ℕ → List ℕ → List ℕ

@@ -1,9 +1,10 @@
 -- What a line brings (section 14.3).
-use Rattle.std.specs.Prelude.{ℕ, ◌+◌, ◌-◌, List, set, Result, Ok, Err, Option, Some, None}
+use Rattle.std.proofs.Common.{lit≤}
+use Rattle.std.specs.Prelude.{ℕ, ◌+◌, ◌-◌, ◌≤◌, List, set, Result, Ok, Err, Option, Some, None}
 use Rattle.laws.specs.Choice.{ifᵇ◌then◌else◌, ◌<ᵇ◌, ◌=ᵇ◌}
 use Rattle.sheet.specs.Fields.{standing_of, count as field_count}
-use Rattle.sheet.specs.declared.Standing.{Standing}
-use Rattle.sheet.specs.declared.Standing.TheVariants.{Fine, Outside, Disagrees as DisagreesThere}
+use Rattle.sheet.specs.declared.FieldFault.{FieldFault}
+use Rattle.sheet.specs.declared.FieldFault.TheVariants.{Outside, Disagrees as DisagreesThere}
 use Rattle.typed.specs.Rows.{count, level_row}
 use Rattle.typed.specs.Reading.{entry_of, row_named}
 use Rattle.typed.specs.declared.EntryFault.TheVariants.{NoName as NameMissing, NoFigure as FigureMissing, NoUnit as UnitMissing}
@@ -29,6 +30,18 @@ fault_number NoUnit = 7
 fault_number OutOfRange = 8
 fault_number Disagrees = 9
 
+-- 0 is no fault's number
+pub fault_number_some : (fault : LineFault) → 1 ≤ fault_number fault
+fault_number_some NoSheet = lit≤ tt
+fault_number_some Missing = lit≤ tt
+fault_number_some NoName = lit≤ tt
+fault_number_some Twice = lit≤ tt
+fault_number_some Misplaced = lit≤ tt
+fault_number_some NoFigure = lit≤ tt
+fault_number_some NoUnit = lit≤ tt
+fault_number_some OutOfRange = lit≤ tt
+fault_number_some Disagrees = lit≤ tt
+
 -- the figures with that of a row; the level's stands for fields 27 and 28
 unfoldable pub stored : List ℕ → ℕ → ℕ → List ℕ
 stored figures k n =
@@ -50,11 +63,16 @@ step stage figures event = record { stage = stage; figures = figures; event = ev
 abbrev pub refused_by : List ℕ → LineFault → ℕ → Step
 refused_by figures fault row = step Skipping figures (Some (Fault fault row))
 
+-- how a figure is wrong in its field, as it is told
+abbrev pub told_of_field : FieldFault → LineFault
+told_of_field Outside = OutOfRange
+told_of_field DisagreesThere = Disagrees
+
 -- a figure was read: it is out of its range, it disagrees with another, the next row follows, or the sheet is whole
-abbrev pub accepted_by : Standing → List ℕ → ℕ → Step
-accepted_by Outside figures k = refused_by figures OutOfRange k
-accepted_by DisagreesThere figures k = refused_by figures Disagrees k
-accepted_by Fine figures k = ifᵇ k <ᵇ 27 then step (InRow (k + 1)) figures None else step Between figures (Some Sheet)
+abbrev pub accepted_by : Result (Unit {0}) FieldFault → List ℕ → ℕ → Step
+accepted_by (Err Outside) figures k = refused_by figures OutOfRange k
+accepted_by (Err DisagreesThere) figures k = refused_by figures Disagrees k
+accepted_by (Ok tt) figures k = ifᵇ k <ᵇ 27 then step (InRow (k + 1)) figures None else step Between figures (Some Sheet)
 
 unfoldable pub accepted_in : List ℕ → ℕ → Step
 accepted_in figures k = accepted_by (standing_of figures (field_of k)) figures k

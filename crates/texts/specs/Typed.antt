@@ -1,6 +1,5 @@
 -- What a typed text is, in the definition's words (section 14): its lines, its sheets, its faults and its bytes.
-use Rattle.std.specs.Prelude.{◌≡◌, true, false, ◌⊎◌, ◌≢◌, ℕ, zero, suc, ◌+◌, ◌-◌, ◌*◌, ◌≤◌, ◌<◌, length, get_or, take, drop, Option, Some, None}
-use Rattle.sheet.specs.declared.SheetRead.TheVariants.{Good}
+use Rattle.std.specs.Prelude.{◌≡◌, true, false, ◌⊎◌, ◌≢◌, ℕ, zero, suc, ◌+◌, ◌-◌, ◌*◌, ◌≤◌, ◌<◌, length, get_or, take, drop, Ok, Option, Some, None}
 use mathlib.Core.List.{List, [], ◌∷◌, ◌++◌, map, flatten}
 use Rattle.laws.specs.Choice.{ifᵇ◌then◌else◌}
 use Rattle.laws.specs.Each.{Each}
@@ -119,7 +118,7 @@ pub record TypedAs (text : List ℕ) (sheets : List Titled) : Type 0 where
 -- that of the row's figure in the sheet that was read.
 pub record TypedAndRead (text : List ℕ) (j : ℕ) : Type 0 where
   pub sheet : Sheet
-  pub read : read_of (take size (drop (28 * j) (typed_bytes text))) ≡ Good sheet
+  pub read : read_of (take size (drop (28 * j) (typed_bytes text))) ≡ Ok sheet
   pub its_figures : figures_of sheet ≡ get_or (sheets_of (all_of text)) j []
   pub its_title : begins_sheet (get_or (kept text) (29 * j) []) ≡ true
   pub its_rows : (i : ℕ) → i < count → get_or (kept text) (29 * j + 1 + i) [] ≡ line_text i (row_figure (figures_of sheet) i)
@@ -195,7 +194,7 @@ pub record OneLine (line : List ℕ) : Type 0 where
 
 -- bytes that are a sheet
 abbrev pub IsSheet : List ℕ → Type 0
-IsSheet bytes = (sheet : Sheet) × (read_of bytes ≡ Good sheet)
+IsSheet bytes = (sheet : Sheet) × (read_of bytes ≡ Ok sheet)
 
 -- the texts of some bytes one behind another, with their indices
 unfoldable pub shown_all : ℕ → List (List ℕ) → List ℕ

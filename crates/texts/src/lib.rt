@@ -3,7 +3,7 @@
 
 ghost use Rattle.std.specs.Prelude.{◌≡◌, map, ◌≤◌, length};
 ghost use Rattle.lines.specs.Lines.{place_within, buffer_within};
-ghost use Rattle.texts.specs.Steps.{fault_number};
+ghost use Rattle.texts.specs.Steps.{fault_number, fault_number_some};
 ghost use Rattle.texts.specs.Texts.{beginning, next_of};
 ghost use Rattle.texts.specs.Names.{name_after};
 ghost use Rattle.texts.specs.Messages.{message_bytes, message_text, shown};
@@ -11,9 +11,10 @@ ghost use Rattle.texts.specs.Shown.{row_figure, shown_bytes, shown_text, form_by
 
 mod cutting;
 mod messages;
-mod putting;
 mod showing;
 mod steps;
+
+use laws::Refusal;
 
 // The bytes of a sheet, and those that a shown one is given.
 pub const SHEET_BYTES: usize = 28;
@@ -86,21 +87,32 @@ pub struct Found {
     pub cursor: Cursor,
 }
 
-// The number of a fault, without its T.
-pub fn fault_number(fault: LineFault) -> u8
-    ensures { result ≡ fault_number fault }
-{
-    match fault {
-        LineFault::NoSheet => 1,
-        LineFault::Missing => 2,
-        LineFault::NoName => 3,
-        LineFault::Twice => 4,
-        LineFault::Misplaced => 5,
-        LineFault::NoFigure => 6,
-        LineFault::NoUnit => 7,
-        LineFault::OutOfRange => 8,
-        LineFault::Disagrees => 9,
+impl Refusal for LineFault {
+    // The number without its T.
+    ghost number_is = { fault_number };
+
+    // A line is turned away in the place of a row, and no field is named.
+    ghost field_is = { λ _. 0 };
+
+    fn number(self) -> u8 {
+        match self {
+            LineFault::NoSheet => 1,
+            LineFault::Missing => 2,
+            LineFault::NoName => 3,
+            LineFault::Twice => 4,
+            LineFault::Misplaced => 5,
+            LineFault::NoFigure => 6,
+            LineFault::NoUnit => 7,
+            LineFault::OutOfRange => 8,
+            LineFault::Disagrees => 9,
+        }
     }
+
+    fn field(self) -> u8 {
+        0
+    }
+
+    ghost some = { fault_number_some };
 }
 
 // Before the first line.

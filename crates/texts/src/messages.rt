@@ -3,7 +3,8 @@ ghost use Rattle.std.specs.Prelude.{◌≡◌, ◌+◌, ◌≤◌, length, take,
 ghost use Rattle.lines.specs.Lines.{Put};
 ghost use Rattle.texts.specs.Messages.{reason_text, shown, quoted_text, stood_text, expected_for, message_text};
 
-use crate::{LineFault, Place, putting};
+use crate::{LineFault, Place};
+use lines::fitting;
 
 // The bytes that a message is given, and how many of a line are shown.
 pub const ROOM: usize = 1024;
@@ -22,15 +23,15 @@ fn put_reason(fault: LineFault, buffer: &mut [u8], at: usize) -> usize
     ensures { Put buffer.old at (reason_text fault) buffer.new result × (result ≤ at + 40) }
 {
     match fault {
-        LineFault::NoSheet => putting::put(b": T1 stands in no sheet: ", buffer, at),
-        LineFault::Missing => putting::put(b": T2 a row is missing: ", buffer, at),
-        LineFault::NoName => putting::put(b": T3 no such name: ", buffer, at),
-        LineFault::Twice => putting::put(b": T4 stands twice: ", buffer, at),
-        LineFault::Misplaced => putting::put(b": T5 misplaced: ", buffer, at),
-        LineFault::NoFigure => putting::put(b": T6 no such figure: ", buffer, at),
-        LineFault::NoUnit => putting::put(b": T7 no such unit: ", buffer, at),
-        LineFault::OutOfRange => putting::put(b": T8 outside its range: ", buffer, at),
-        LineFault::Disagrees => putting::put(b": T9 turn and radius disagree: ", buffer, at),
+        LineFault::NoSheet => fitting::put(b": T1 stands in no sheet: ", buffer, at),
+        LineFault::Missing => fitting::put(b": T2 a row is missing: ", buffer, at),
+        LineFault::NoName => fitting::put(b": T3 no such name: ", buffer, at),
+        LineFault::Twice => fitting::put(b": T4 stands twice: ", buffer, at),
+        LineFault::Misplaced => fitting::put(b": T5 misplaced: ", buffer, at),
+        LineFault::NoFigure => fitting::put(b": T6 no such figure: ", buffer, at),
+        LineFault::NoUnit => fitting::put(b": T7 no such unit: ", buffer, at),
+        LineFault::OutOfRange => fitting::put(b": T8 outside its range: ", buffer, at),
+        LineFault::Disagrees => fitting::put(b": T9 turn and radius disagree: ", buffer, at),
     }
 }
 
@@ -63,13 +64,13 @@ fn put_quoted(line: &[u8], buffer: &mut [u8], at: usize) -> usize
     requires { at + 64 ≤ length buffer.old }
     ensures { Put buffer.old at (quoted_text line.now) buffer.new result × (result ≤ at + 64) }
 {
-    let first = putting::put(b"\"", buffer, at);
+    let first = fitting::put(b"\"", buffer, at);
     let last = put_seen(&line[..SEEN.min(line.len())], buffer, first);
-    let end = putting::put(b"\"", buffer, last);
+    let end = fitting::put(b"\"", buffer, last);
     if line.len() <= SEEN {
         return end;
     }
-    putting::put(b"..", buffer, end)
+    fitting::put(b"..", buffer, end)
 }
 
 // What stood at a place of a text.
@@ -78,7 +79,7 @@ fn put_stood(text: &[u8], place: Place, buffer: &mut [u8], at: usize) -> usize
     ensures { Put buffer.old at (stood_text text.now place) buffer.new result × (result ≤ at + 64) }
 {
     if place.ended {
-        return putting::put(b"the text ends", buffer, at);
+        return fitting::put(b"the text ends", buffer, at);
     }
     let end = place.end.min(text.len());
     let start = place.start.min(end);
@@ -91,7 +92,7 @@ fn put_expected(fault: LineFault, row: usize, buffer: &mut [u8], at: usize) -> u
     ensures { Put buffer.old at (expected_for fault row) buffer.new result × (result ≤ at + 512) }
 {
     if let LineFault::NoSheet = fault {
-        return putting::put(b"sheet", buffer, at);
+        return fitting::put(b"sheet", buffer, at);
     }
     typed::put_expected(row, buffer, at)
 }
@@ -108,11 +109,11 @@ pub fn put_whole(
     requires { at + 1024 ≤ length buffer.old }
     ensures { Put buffer.old at (message_text text.now fault row place) buffer.new result }
 {
-    let number = putting::put(b"line ", buffer, at);
-    let reason = putting::put_count(place.line as u64, buffer, number);
+    let number = fitting::put(b"line ", buffer, at);
+    let reason = fitting::put_count(place.line as u64, buffer, number);
     let stood = put_reason(fault, buffer, reason);
     let then = put_stood(text, place, buffer, stood);
-    let expected = putting::put(b"; expected: ", buffer, then);
+    let expected = fitting::put(b"; expected: ", buffer, then);
     let end = put_expected(fault, row, buffer, expected);
-    putting::put(b"\n", buffer, end)
+    fitting::put(b"\n", buffer, end)
 }

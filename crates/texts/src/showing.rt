@@ -3,8 +3,10 @@ ghost use Rattle.std.specs.Prelude.{◌+◌, ◌≤◌, ◌<◌, length};
 ghost use Rattle.lines.specs.Lines.{Put};
 ghost use Rattle.texts.specs.Shown.{row_line, rows_text, refused_text, read_text, shown_text, form_row, form_text, sheet_text};
 
-use crate::{SHEET_BYTES, putting};
-use sheet::{ReadFault, SheetRead};
+use crate::SHEET_BYTES;
+use laws::Refusal;
+use lines::fitting;
+use sheet::{ReadFault, Sheet};
 
 // The bytes that the form is given.
 pub const FORM_ROOM: usize = 20000;
@@ -15,7 +17,7 @@ fn put_row(i: usize, figure: u32, buffer: &mut [u8], at: usize) -> usize
     ensures { Put buffer.old at (row_line i figure) buffer.new result × (result ≤ at + 85) }
 {
     let end = typed::put_line(i, figure, buffer, at);
-    putting::put(b"\n", buffer, end)
+    fitting::put(b"\n", buffer, end)
 }
 
 // The rows of a sheet, each with its newline.
@@ -35,21 +37,21 @@ fn put_refused(fault: ReadFault, buffer: &mut [u8], at: usize) -> usize
     requires { at + 100 ≤ length buffer.old }
     ensures { Put buffer.old at (refused_text fault) buffer.new result }
 {
-    let number = putting::put(b"refused ", buffer, at);
-    let space = putting::put_count(sheet::read_fault_number(fault) as u64, buffer, number);
-    let field = putting::put(b" ", buffer, space);
-    let end = putting::put_count(sheet::read_fault_field(fault) as u64, buffer, field);
-    putting::put(b"\n", buffer, end)
+    let number = fitting::put(b"refused ", buffer, at);
+    let space = fitting::put_count(fault.number() as u64, buffer, number);
+    let field = fitting::put(b" ", buffer, space);
+    let end = fitting::put_count(fault.field() as u64, buffer, field);
+    fitting::put(b"\n", buffer, end)
 }
 
 // What bytes are read as.
-fn put_read(read: SheetRead, buffer: &mut [u8], at: usize) -> usize
+fn put_read(read: Result<Sheet, ReadFault>, buffer: &mut [u8], at: usize) -> usize
     requires { at + 2400 ≤ length buffer.old }
     ensures { Put buffer.old at (read_text read) buffer.new result }
 {
     match read {
-        SheetRead::Good(sheet) => put_rows(sheet::figures_of(sheet), buffer, at),
-        SheetRead::NoSheet(fault) => put_refused(fault, buffer, at),
+        Ok(sheet) => put_rows(sheet::figures_of(sheet), buffer, at),
+        Err(fault) => put_refused(fault, buffer, at),
     }
 }
 
@@ -58,9 +60,9 @@ pub fn put_sheet(index: u64, bytes: &[u8], buffer: &mut [u8], at: usize) -> usiz
     requires { at + 4096 ≤ length buffer.old }
     ensures { Put buffer.old at (shown_text index bytes.now) buffer.new result }
 {
-    let first = putting::put(b"sheet ", buffer, at);
-    let end = putting::put_count(index, buffer, first);
-    let rows = putting::put(b"\n", buffer, end);
+    let first = fitting::put(b"sheet ", buffer, at);
+    let end = fitting::put_count(index, buffer, first);
+    let rows = fitting::put(b"\n", buffer, end);
     put_read(sheet::read(bytes), buffer, rows)
 }
 
@@ -71,11 +73,12 @@ pub fn put_figures(figures: [u32; sheet::COUNT], buffer: &mut [u8], at: usize) -
 {
     let made = sheet::sheet_from(figures);
     match made {
-        SheetRead::Good(sheet) => {
-            sheet::write(sheet, &mut buffer[at..]);
+        Ok(sheet) => {
+            // The figures are a sheet's, and its bytes fit: nothing is refused.
+            let _ = sheet::write(sheet, &mut buffer[at..]);
             at + SHEET_BYTES
         }
-        SheetRead::NoSheet(_) => at,
+        Err(_) => at,
     }
 }
 
@@ -84,11 +87,11 @@ fn put_form_row(i: usize, buffer: &mut [u8], at: usize) -> usize
     requires { at + 600 ≤ length buffer.old }
     ensures { Put buffer.old at (form_row i) buffer.new result × (result ≤ at + 600) }
 {
-    let first = putting::put(b"# ", buffer, at);
+    let first = fitting::put(b"# ", buffer, at);
     let second = typed::put_expected(i, buffer, first);
-    let third = putting::put(b"\n", buffer, second);
+    let third = fitting::put(b"\n", buffer, second);
     let end = typed::put_blank(i, buffer, third);
-    putting::put(b"\n", buffer, end)
+    fitting::put(b"\n", buffer, end)
 }
 
 // The whole form.
@@ -98,7 +101,7 @@ pub fn put_form_rows(buffer: &mut [u8], at: usize) -> usize
 {
     let head =
         b"# Put a figure or a word in the place of each _; the line above says which. A name may stand behind sheet.\nsheet\n";
-    let mut end = putting::put(head, buffer, at);
+    let mut end = fitting::put(head, buffer, at);
     for i in 0..typed::COUNT {
         end = put_form_row(i, buffer, end);
     }

@@ -1,11 +1,11 @@
 // One line of a text: what it brings, and how far the text is read then (definition, section 14.3).
 ghost use Rattle.std.specs.Prelude.{◌≡◌, ◌<◌, length, drop};
 ghost use Rattle.texts.specs.Cutting.{line_of};
-ghost use Rattle.texts.specs.Steps.{stored, field_of, refused_by, accepted_in, name_fault, told_of, row_step, missing_at, begin_step, step_of, line_step};
+ghost use Rattle.texts.specs.Steps.{stored, field_of, refused_by, told_of_field, accepted_in, name_fault, told_of, row_step, missing_at, begin_step, step_of, line_step};
 ghost use Rattle.texts.specs.Texts.{turn_on, ended_at};
 
 use crate::{Cursor, Event, Found, LineFault, Place, Stage, cutting};
-use sheet::Standing;
+use sheet::FieldFault;
 use typed::EntryFault;
 
 // What a line brings, and the stage and the figures then.
@@ -65,28 +65,34 @@ fn refused_by(figures: [u32; sheet::COUNT], fault: LineFault, row: usize) -> Ste
     }
 }
 
+// How a figure is wrong in its field, as it is told.
+fn told_of_field(fault: FieldFault) -> LineFault
+    ensures { result ≡ told_of_field fault }
+{
+    match fault {
+        FieldFault::Outside => LineFault::OutOfRange,
+        FieldFault::Disagrees => LineFault::Disagrees,
+    }
+}
+
 // A figure was read: on to the next row, or the sheet is whole.
 fn accepted_in(figures: [u32; sheet::COUNT], k: usize) -> Step
     ensures { result ≡ accepted_in figures k }
 {
-    let standing = sheet::standing_of(figures, field_of(k));
-    match standing {
-        Standing::Outside => refused_by(figures, LineFault::OutOfRange, k),
-        Standing::Disagrees => refused_by(figures, LineFault::Disagrees, k),
-        Standing::Fine => {
-            if k < 27 {
-                return Step {
-                    stage: Stage::InRow(k + 1),
-                    figures,
-                    event: None,
-                };
-            }
-            Step {
-                stage: Stage::Between,
-                figures,
-                event: Some(Event::Sheet),
-            }
-        }
+    if let Err(fault) = sheet::standing_of(figures, field_of(k)) {
+        return refused_by(figures, told_of_field(fault), k);
+    }
+    if k < 27 {
+        return Step {
+            stage: Stage::InRow(k + 1),
+            figures,
+            event: None,
+        };
+    }
+    Step {
+        stage: Stage::Between,
+        figures,
+        event: Some(Event::Sheet),
     }
 }
 

@@ -5,6 +5,7 @@ ghost use Rattle.typed.specs.Lines.{token, tenths_text, hundredths_text, level_t
 
 use crate::Kind;
 use crate::table::Row;
+use lines::fitting;
 use sheet::Range;
 
 const SPACE: u8 = b' ';
@@ -23,14 +24,6 @@ pub const SLOT: usize = 16;
 // The figure of the level 0: the record's figure and the 500 cm below it stand before.
 pub const LEVEL_ZERO: u32 = 501;
 
-// Puts bytes that fit.
-fn put_bytes(text: &[u8], buffer: &mut [u8], at: usize) -> usize
-    requires { at + length text.now ≤ length buffer.old }
-    ensures { Put buffer.old at text.now buffer.new result }
-{
-    lines::put_bytes(text, buffer, at)
-}
-
 // What stands before the first space of a place of the table.
 pub fn token(slot: &[u8]) -> &[u8]
     ensures { (result.now ≡ token slot.now) × (length result.now ≤ length slot.now) }
@@ -48,7 +41,7 @@ fn put_token(slot: &[u8], buffer: &mut [u8], at: usize) -> usize
     requires { at + length slot.now ≤ length buffer.old }
     ensures { Put buffer.old at (token slot.now) buffer.new result × (result ≤ at + length slot.now) }
 {
-    put_bytes(token(slot), buffer, at)
+    fitting::put(token(slot), buffer, at)
 }
 
 // Tenths: a point and one digit behind it.
@@ -56,7 +49,7 @@ fn put_tenths(figure: u32, buffer: &mut [u8], at: usize) -> usize
     requires { at + 24 ≤ length buffer.old }
     ensures { Put buffer.old at (tenths_text figure) buffer.new result × (result ≤ at + 24) }
 {
-    let point = lines::put_decimal((figure / 10) as u64, buffer, at);
+    let point = fitting::put_count((figure / 10) as u64, buffer, at);
     buffer[point] = POINT;
     buffer[point + 1] = b'0' + (figure % 10) as u8;
     point + 2
@@ -67,7 +60,7 @@ fn put_hundredths(figure: u32, buffer: &mut [u8], at: usize) -> usize
     requires { at + 24 ≤ length buffer.old }
     ensures { Put buffer.old at (hundredths_text figure) buffer.new result × (result ≤ at + 24) }
 {
-    let point = lines::put_decimal((figure / 100) as u64, buffer, at);
+    let point = fitting::put_count((figure / 100) as u64, buffer, at);
     buffer[point] = POINT;
     buffer[point + 1] = b'0' + (figure / 10 % 10) as u8;
     buffer[point + 2] = b'0' + (figure % 10) as u8;
@@ -80,14 +73,14 @@ fn put_level(figure: u32, buffer: &mut [u8], at: usize) -> usize
     ensures { Put buffer.old at (level_text figure) buffer.new result × (result ≤ at + 28) }
 {
     if figure == 0 {
-        return put_bytes(b"record", buffer, at);
+        return fitting::put(b"record", buffer, at);
     }
-    let sign = put_bytes(b"given ", buffer, at);
+    let sign = fitting::put(b"given ", buffer, at);
     if figure < LEVEL_ZERO {
         buffer[sign] = MINUS;
-        return lines::put_decimal((LEVEL_ZERO - figure) as u64, buffer, sign + 1);
+        return fitting::put_count((LEVEL_ZERO - figure) as u64, buffer, sign + 1);
     }
-    lines::put_decimal((figure - LEVEL_ZERO) as u64, buffer, sign)
+    fitting::put_count((figure - LEVEL_ZERO) as u64, buffer, sign)
 }
 
 // The word of a code; nothing past the words.
@@ -108,7 +101,7 @@ pub fn put_figure(row: Row, figure: u32, buffer: &mut [u8], at: usize) -> usize
     ensures { Put buffer.old at (figure_text row figure) buffer.new result × (result ≤ at + 28) }
 {
     match row.kind {
-        Kind::Whole => lines::put_decimal(figure as u64, buffer, at),
+        Kind::Whole => fitting::put_count(figure as u64, buffer, at),
         Kind::Tenths => put_tenths(figure, buffer, at),
         Kind::Hundredths => put_hundredths(figure, buffer, at),
         Kind::Words => put_word(row.words, figure, buffer, at),
@@ -179,7 +172,7 @@ fn put_words(row: Row, buffer: &mut [u8], at: usize) -> usize
         if row.words[SLOT * j] == SPACE {
             return end;
         }
-        end = put_bytes(b" | ", buffer, end);
+        end = fitting::put(b" | ", buffer, end);
         end = put_row(row, j as u32, buffer, end);
     }
     end
@@ -191,7 +184,7 @@ fn put_span(row: Row, least: u32, greatest: u32, buffer: &mut [u8], at: usize) -
     ensures { Put buffer.old at (span_text row least greatest) buffer.new result }
 {
     let first = put_row(row, least, buffer, at);
-    let second = put_bytes(b" .. ", buffer, first);
+    let second = fitting::put(b" .. ", buffer, first);
     put_row(row, greatest, buffer, second)
 }
 
@@ -207,7 +200,7 @@ pub fn put_lines(row: Row, values: Range, buffer: &mut [u8], at: usize) -> usize
         }
         Kind::Level => {
             let record = put_row(row, 0, buffer, at);
-            let given = put_bytes(b" | ", buffer, record);
+            let given = fitting::put(b" | ", buffer, record);
             put_span(row, 1, values.greatest, buffer, given)
         }
         _ => put_span(row, values.least, values.greatest, buffer, at),

@@ -1,4 +1,5 @@
 -- Bytes shown as text and typed again: the text of sheets is typed as those sheets, and that of other bytes has a fault.
+use Rattle.std.specs.Prelude.{Result, Ok, Err}
 use mathlib.Core.Path.{◌≡◌, refl, ap, sym, ◌∙◌}
 use mathlib.Core.Bool.{Bool, true, false}
 use mathlib.Core.List.Memᴰ
@@ -21,8 +22,6 @@ use Rattle.sheet.specs.Refusals.{read_fault_number, read_fault_field}
 use Rattle.sheet.specs.Sheets.{figures_of, read_of, Valid}
 use Rattle.sheet.specs.declared.ReadFault.{ReadFault}
 use Rattle.sheet.specs.declared.Sheet.{Sheet}
-use Rattle.sheet.specs.declared.SheetRead.{SheetRead}
-use Rattle.sheet.specs.declared.SheetRead.TheVariants.{Good, NoSheet}
 use Rattle.sheet.proofs.Promises.{read_is_valid}
 use Rattle.sheet.proofs.sheets.OneWriting.{read_valid}
 use Rattle.typed.specs.Rows.{bytes_of, count, rows, row_at}
@@ -49,9 +48,9 @@ abbrev pub refused_line : ReadFault → List ℕ
 refused_line fault = ((bytes_of "refused " ++ count_text (read_fault_number fault)) ++ space ∷ []) ++ count_text (read_fault_field fault)
 
 -- the lines of what bytes are read as
-abbrev pub lines_read : SheetRead → List (List ℕ)
-lines_read (Good s) = sheet_lines (figures_of s)
-lines_read (NoSheet fault) = refused_line fault ∷ []
+abbrev pub lines_read : Result Sheet ReadFault → List (List ℕ)
+lines_read (Ok s) = sheet_lines (figures_of s)
+lines_read (Err fault) = refused_line fault ∷ []
 
 abbrev pub lines_shown : ℕ → List (List ℕ) → List (List ℕ)
 lines_shown index [] = []
@@ -70,10 +69,10 @@ rows_text_lem figures i (suc m) =
     append_assoc (line_text i (row_figure figures i)) (newline ∷ []) (rows_text figures (i + 1) m)
     ∙ ap (λ (l : List ℕ). line_text i (row_figure figures i) ++ (newline ∷ l)) (rows_text_lem figures (i + 1) m)
 
-read_text_lem : (r : SheetRead) → read_text r ≡ text_of (lines_read r)
+read_text_lem : (r : Result Sheet ReadFault) → read_text r ≡ text_of (lines_read r)
 unfolding sheet_lines refused_text text_of
-read_text_lem (Good s) = rows_text_lem (figures_of s) 0 count
-read_text_lem (NoSheet fault) = refl
+read_text_lem (Ok s) = rows_text_lem (figures_of s) 0 count
+read_text_lem (Err fault) = refl
 
 -- a line with its newline, and two parts behind it
 with_newline : (line first second : List ℕ) → ((line ++ newline ∷ []) ++ first) ++ second ≡ line ++ (newline ∷ (first ++ second))
@@ -136,9 +135,9 @@ refused_nameless fault i h =
     let rest = (count_text (read_fault_number fault) ++ space ∷ []) ++ count_text (read_fault_field fault) in
     differ_stands (name_text (row_at i)) (bytes_of "refused ") rest (every_at count no_refused no_refused_test i h)
 
-read_stays : (r : SheetRead) → Each Stays (lines_read r)
-read_stays (Good s) = sheet_stays (figures_of s)
-read_stays (NoSheet fault) = (refused_stays fault, tt)
+read_stays : (r : Result Sheet ReadFault) → Each Stays (lines_read r)
+read_stays (Ok s) = sheet_stays (figures_of s)
+read_stays (Err fault) = (refused_stays fault, tt)
 
 shown_stay : (index : ℕ) (all : List (List ℕ)) → Each Stays (lines_shown index all)
 shown_stay index [] = tt
@@ -162,7 +161,7 @@ shown_as_typed index [] p = refl
 shown_as_typed index (bytes ∷ rest) p = rw (p.0.1, shown_as_typed (index + 1) rest p.1)
 
 -- the figures of a sheet that was read
-pub read_fine : (bytes : List ℕ) (s : Sheet) → read_of bytes ≡ Good s → SheetFigures (figures_of s)
+pub read_fine : (bytes : List ℕ) (s : Sheet) → read_of bytes ≡ Ok s → SheetFigures (figures_of s)
 unfolding figures_of Valid
 read_fine bytes s e = record { each_field = refl; none_bad = read_valid bytes s e }
 
@@ -178,7 +177,7 @@ shown_typed_as : (index : ℕ) (all : List (List ℕ)) (p : Each IsSheet all) �
 shown_typed_as index all p = record { lines = kept_shown index all ∙ shown_as_typed index all p; each_proper = each_read_fine index all p }
 
 -- and its bytes are those that were shown
-own_bytes : (bytes : List ℕ) (s : Sheet) → Bytes bytes → read_of bytes ≡ Good s → sheet_text (figures_of s) ≡ bytes
+own_bytes : (bytes : List ℕ) (s : Sheet) → Bytes bytes → read_of bytes ≡ Ok s → sheet_text (figures_of s) ≡ bytes
 own_bytes bytes s small e = its_bytes (figures_of s) (read_fine bytes s e) ∙ sym (read_is_valid bytes s small e).writing
 
 all_bytes : (index : ℕ) (all : List (List ℕ)) (p : Each IsSheet all) → Each Bytes all
@@ -209,11 +208,11 @@ each_a_sheet index (bytes ∷ rest) none = (
   each_a_sheet (index + 1) rest (λ fault m. none fault (Memᴰ.tail (Memᴰ.append_right (lines_read (read_of bytes)) m))),
 )
   where
-    go : (r : SheetRead) → read_of bytes ≡ r
+    go : (r : Result Sheet ReadFault) → read_of bytes ≡ r
         → ((fault : ReadFault) → Memᴰ (refused_line fault) (title_of index ∷ (lines_read r ++ lines_shown (index + 1) rest)) → ⊥)
         → IsSheet bytes
-    go (Good s) e none = (s, e)
-    go (NoSheet fault) e none = absurd (none fault (Memᴰ.tail (Memᴰ.head refl)))
+    go (Ok s) e none = (s, e)
+    go (Err fault) e none = absurd (none fault (Memᴰ.tail (Memᴰ.head refl)))
 
 -- so the shown text has no fault exactly when all bytes were sheets
 pub shown_exactly : (index : ℕ) (all : List (List ℕ)) → Faultless (shown_all index all) ↔ Each IsSheet all
@@ -228,7 +227,7 @@ unfolding shown_all
 one_shown index bytes = append-nil (shown_text index bytes)
 
 module _ (index : ℕ) (bytes : List ℕ) where
-  pub one_typed : (s : Sheet) → read_of bytes ≡ Good s → Faultless (shown_text index bytes) × (sheets_of (all_of (shown_text index bytes)) ≡ figures_of s ∷ [])
+  pub one_typed : (s : Sheet) → read_of bytes ≡ Ok s → Faultless (shown_text index bytes) × (sheets_of (all_of (shown_text index bytes)) ≡ figures_of s ∷ [])
   one_typed s e =
       rw (← one_shown index bytes)
       (complete_text (shown_all index (bytes ∷ [])) (titled_all index (bytes ∷ []) ((s, e), tt)) (shown_typed_as index (bytes ∷ []) ((s, e), tt)))
@@ -237,7 +236,7 @@ module _ (index : ℕ) (bytes : List ℕ) where
   unfolding flatten
   one_again p small = rw (← one_shown index bytes) (typed_again index (bytes ∷ []) (p, tt) (small, tt) ∙ append-nil bytes)
 
-  pub one_refused : (fault : ReadFault) → read_of bytes ≡ NoSheet fault → Faultless (shown_text index bytes) → ⊥
+  pub one_refused : (fault : ReadFault) → read_of bytes ≡ Err fault → Faultless (shown_text index bytes) → ⊥
   one_refused fault e none =
       let p = ((shown_exactly index (bytes ∷ [])).0 (rw (one_shown index bytes) none)).0 in
       let good = p.1 in

@@ -1,4 +1,5 @@
 -- The fields of a sheet, filled row by row: what a row's figure changes, what it leaves, and when the fields are fine.
+use Rattle.std.specs.Prelude.{Ok, Err}
 use mathlib.Core.Path.{◌≡◌, refl, ap, sym, ◌∙◌}
 use mathlib.Core.Bool.{Bool, true, false, ◌||◌, ◌&&◌, not, beq}
 use mathlib.Core.List.{List}
@@ -12,7 +13,7 @@ use Rattle.laws.proofs.First.{is_none, none_is}
 use Rattle.laws.proofs.Never.{never}
 use Rattle.laws.specs.Choice.{ifᵇ◌then◌else◌, ◌<ᵇ◌, ◌=ᵇ◌}
 use Rattle.sheet.specs.Fields.{fields, field_at, nth, least, greatest, outside_at, pair_bad, bad_at, standing_of, first_bad, count as field_count}
-use Rattle.sheet.specs.declared.Standing.TheVariants.{Fine, Outside, Disagrees}
+use Rattle.sheet.specs.declared.FieldFault.TheVariants.{Outside, Disagrees}
 use Rattle.typed.specs.Rows.{count, level_row}
 use Rattle.texts.specs.Shown.{row_figure}
 use Rattle.texts.specs.Steps.{stored, field_of}
@@ -105,21 +106,21 @@ row_same a b k h same = go (row_case k h)
     go (behind_level e) = rw e (same 28 (omega arith))
 
 -- a field stands well exactly when it is not bad
-pub not_bad_fine : (figures : List ℕ) (k : ℕ) → k < field_count → bad_at figures k ≡ false → standing_of figures k ≡ Fine
+pub not_bad_fine : (figures : List ℕ) (k : ℕ) → k < field_count → bad_at figures k ≡ false → standing_of figures k ≡ Ok tt
 unfolding standing_of bad_at outside_at
 not_bad_fine figures k h e = rw (lt-leb field_count k h) (go (nth figures k <ᵇ least k) (greatest k <ᵇ nth figures k) (pair_bad figures k) e)
   where
-    go : (a b p : Bool) → (a || (b || p)) ≡ false → (ifᵇ a || b then Outside else (ifᵇ p then Disagrees else Fine)) ≡ Fine
+    go : (a b p : Bool) → (a || (b || p)) ≡ false → (ifᵇ a || b then Err Outside else (ifᵇ p then Err Disagrees else Ok (tt {0}))) ≡ Ok (tt {0})
     go true b p e = never cc
     go false true p e = never cc
     go false false true e = never cc
     go false false false e = refl
 
-pub fine_not_bad : (figures : List ℕ) (k : ℕ) → k < field_count → standing_of figures k ≡ Fine → bad_at figures k ≡ false
+pub fine_not_bad : (figures : List ℕ) (k : ℕ) → k < field_count → standing_of figures k ≡ Ok tt → bad_at figures k ≡ false
 unfolding standing_of bad_at outside_at
 fine_not_bad figures k h e = go (nth figures k <ᵇ least k) (greatest k <ᵇ nth figures k) (pair_bad figures k) (rw (lt-leb field_count k h) at e)
   where
-    go : (a b p : Bool) → (ifᵇ a || b then Outside else (ifᵇ p then Disagrees else Fine)) ≡ Fine → (a || (b || p)) ≡ false
+    go : (a b p : Bool) → (ifᵇ a || b then Err Outside else (ifᵇ p then Err Disagrees else Ok (tt {0}))) ≡ Ok (tt {0}) → (a || (b || p)) ≡ false
     go true b p e = never cc
     go false true p e = never cc
     go false false true e = never cc

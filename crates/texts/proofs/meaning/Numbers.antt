@@ -16,8 +16,8 @@ use Rattle.laws.proofs.Rows.{stop, past, Call, bare, Told, exactly}
 use Rattle.laws.specs.Choice.{ifᵇ◌then◌else◌, ◌<ᵇ◌, ◌=ᵇ◌}
 use Rattle.laws.specs.Rows.{Row, ◌when◌, Exactly}
 use Rattle.sheet.specs.Fields.{fields, field_at, nth, field, least, greatest, outside_at, pair_bad, standing_of, range_of, count as field_count}
-use Rattle.sheet.specs.declared.Standing.{Standing}
-use Rattle.sheet.specs.declared.Standing.TheVariants.{Fine, Outside, Disagrees as DisagreesThere}
+use Rattle.sheet.specs.declared.FieldFault.{FieldFault}
+use Rattle.sheet.specs.declared.FieldFault.TheVariants.{Outside, Disagrees as DisagreesThere}
 use Rattle.typed.specs.Rows.{count, level_row, row_at, values_of}
 use Rattle.typed.specs.Lines.{front_text, line_text}
 use Rattle.typed.specs.Reading.{stands, entry_of, named, row_named}
@@ -169,13 +169,13 @@ module _ (figures : List ℕ) (k : ℕ) (h : k < count) (long : length figures �
       done false = refl
 
       go : (a b : Bool) → outside_at v (field_of k) ≡ a → pair_bad v (field_of k) ≡ b
-          → Told telling (figure_rows k figures n) (accepted_by (ifᵇ a then Outside else (ifᵇ b then DisagreesThere else Fine)) v k).event
+          → Told telling (figure_rows k figures n) (accepted_by (ifᵇ a then Err Outside else (ifᵇ b then Err DisagreesThere else Ok tt)) v k).event
       go true b p q = stop ((outside_test n (values_of k).least (values_of k).greatest).0 (sym (outside_row figures k n h long) ∙ p)) (refl, tt)
       go false b p q =
           past ((outside_test n (values_of k).least (values_of k).greatest).1 (sym (outside_row figures k n h long) ∙ p)) (pairs b q)
         where
           pairs : (b : Bool) → pair_bad v (field_of k) ≡ b
-              → Told telling ((9 when ((k ≡ 25) × Disagree (field figures 25) n)) ∷ []) (accepted_by (ifᵇ b then DisagreesThere else Fine) v k).event
+              → Told telling ((9 when ((k ≡ 25) × Disagree (field figures 25) n)) ∷ []) (accepted_by (ifᵇ b then Err DisagreesThere else Ok tt) v k).event
           pairs true q = stop ((pair_test k (field figures 25) n (eqb k 25) refl).0 (sym (pair_row figures k n h long) ∙ q)) (refl, tt)
           pairs false q = past ((pair_test k (field figures 25) n (eqb k 25) refl).1 (sym (pair_row figures k n h long) ∙ q)) (done (k <ᵇ 27), tt)
 
@@ -282,10 +282,10 @@ skipped figures line e = other_step_lem Skipping figures line e
 
 -- where a row was to stand a line brings no fault, or is turned away
 module _ (figures : List ℕ) (k : ℕ) (line : List ℕ) where
-  accepted_way : (t : Standing) (v : List ℕ) → (event_number (accepted_by t v k).event ≡ 0) ⊎ RefusedAt k (accepted_by t v k)
-  accepted_way Outside v = inr (record { fault = OutOfRange; told = refl; then_skips = refl })
-  accepted_way DisagreesThere v = inr (record { fault = Disagrees; told = refl; then_skips = refl })
-  accepted_way Fine v = go (k <ᵇ 27)
+  accepted_way : (t : Result (Unit {0}) FieldFault) (v : List ℕ) → (event_number (accepted_by t v k).event ≡ 0) ⊎ RefusedAt k (accepted_by t v k)
+  accepted_way (Err Outside) v = inr (record { fault = OutOfRange; told = refl; then_skips = refl })
+  accepted_way (Err DisagreesThere) v = inr (record { fault = Disagrees; told = refl; then_skips = refl })
+  accepted_way (Ok tt) v = go (k <ᵇ 27)
     where
       go : (b : Bool) → (event_number (ifᵇ b then step (InRow (k + 1)) v None else step Between v (Some Sheet)).event ≡ 0)
           ⊎ RefusedAt k (ifᵇ b then step (InRow (k + 1)) v None else step Between v (Some Sheet))

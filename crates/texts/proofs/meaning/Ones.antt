@@ -1,4 +1,5 @@
 -- One text each: texts with the same kept lines say the same, and texts that say the same have the same kept lines, titles aside.
+use Rattle.std.specs.Prelude.{Ok}
 use mathlib.Core.Path.{◌≡◌, refl, ap, sym, ◌∙◌}
 use mathlib.Core.List.{List, [], ◌∷◌, ◌++◌, map, flatten}
 use Prim.Native.Nat.{ℕ}
@@ -9,7 +10,6 @@ use Rattle.laws.proofs.Never.{never}
 use Rattle.laws.specs.Each.{Each}
 use Rattle.sheet.specs.Packing.{size}
 use Rattle.sheet.specs.Sheets.{sheet_of, figures_of, read_of}
-use Rattle.sheet.specs.declared.SheetRead.TheVariants.{Good}
 use Rattle.typed.specs.Rows.{bytes_of}
 use Rattle.typed.specs.Reading.{stands}
 use Rattle.texts.specs.Cutting.{begins_sheet}
@@ -65,7 +65,7 @@ figures_of_lines figures others f g e =
 -- figures with the same bytes
 pub figures_of_bytes : (figures others : List ℕ) → SheetFigures figures → SheetFigures others → sheet_text figures ≡ sheet_text others → figures ≡ others
 figures_of_bytes figures others f g e =
-    let good : Good (sheet_of figures) ≡ Good (sheet_of others) = sym (read_again figures f) ∙ ap read_of e ∙ read_again others g in
+    let good : Ok (sheet_of figures) ≡ Ok (sheet_of others) = sym (read_again figures f) ∙ ap read_of e ∙ read_again others g in
     let sheets : sheet_of figures ≡ sheet_of others = cc in
     sym (its_figures figures f) ∙ ap figures_of sheets ∙ its_figures others g
 

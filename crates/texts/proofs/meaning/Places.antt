@@ -1,4 +1,5 @@
 -- Where a sheet's rows stand among the lines of a text, and its figures among the bytes.
+use Rattle.std.specs.Prelude.{Ok}
 use mathlib.Core.Path.{◌≡◌, refl, ap, ◌∙◌}
 use mathlib.Core.Bool.{Bool, true, false}
 use mathlib.Core.List.{List, [], ◌∷◌, ◌++◌, map, flatten, Memᴰ}
@@ -14,7 +15,6 @@ use Rattle.laws.specs.Each.{Each}
 use Rattle.sheet.specs.Fields.{first_bad}
 use Rattle.sheet.specs.Packing.{size, bytes_of as packed_of}
 use Rattle.sheet.specs.Sheets.{sheet_of, figures_of, sheet_from, read_of, Valid}
-use Rattle.sheet.specs.declared.SheetRead.TheVariants.{Good}
 use Rattle.sheet.proofs.Promises.{figures_come_back}
 use Rattle.sheet.proofs.sheets.OneWriting.{bytes_length, read_written}
 use Rattle.typed.specs.Rows.{count}
@@ -29,7 +29,7 @@ use Rattle.texts.proofs.meaning.Sound.{sound_text}
 
 -- the sheet of figures, read from their bytes
 module _ (figures : List ℕ) (fine : SheetFigures figures) where
-  made : sheet_from figures ≡ Good (sheet_of figures)
+  made : sheet_from figures ≡ Ok (sheet_of figures)
   unfolding sheet_from
   made = rw fine.none_bad
 
@@ -43,7 +43,7 @@ module _ (figures : List ℕ) (fine : SheetFigures figures) where
   pub its_length : length (sheet_text figures) ≡ size
   its_length = rw its_bytes (bytes_length figures)
 
-  pub read_again : read_of (sheet_text figures) ≡ Good (sheet_of figures)
+  pub read_again : read_of (sheet_text figures) ≡ Ok (sheet_of figures)
   unfolding Valid
   read_again =
       let valid : first_bad (figures_of (sheet_of figures)) ≡ 0 = rw its_figures fine.none_bad in

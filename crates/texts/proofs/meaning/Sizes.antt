@@ -1,4 +1,5 @@
 -- No text is longer than the bytes that it is given.
+use Rattle.std.specs.Prelude.{Result, Ok, Err}
 use mathlib.Core.Path.{◌≡◌, refl, ◌∙◌}
 use mathlib.Core.Bool.{Bool, true, false}
 use mathlib.Core.List.{List, [], ◌∷◌, ◌++◌, map}
@@ -16,8 +17,6 @@ use Rattle.sheet.specs.Refusals.{read_fault_number, read_fault_field}
 use Rattle.sheet.specs.Sheets.{figures_of, read_of}
 use Rattle.sheet.specs.declared.ReadFault.{ReadFault}
 use Rattle.sheet.specs.declared.ReadFault.TheVariants.{WrongLength, SpareBitSet, BadField}
-use Rattle.sheet.specs.declared.SheetRead.{SheetRead}
-use Rattle.sheet.specs.declared.SheetRead.TheVariants.{Good, NoSheet as NotRead}
 use Rattle.sheet.proofs.Promises.{field_within}
 use Rattle.sheet.proofs.sheets.OneWriting.{bytes_length}
 use Rattle.typed.specs.Rows.{bytes_of, count, values_of}
@@ -30,6 +29,7 @@ use Rattle.texts.specs.declared.Place.{Place}
 use Rattle.texts.proofs.meaning.Again.{read_fine}
 use Rattle.texts.proofs.meaning.Complete.{row_within}
 use Rattle.texts.proofs.meaning.Filling.{first_none_bad}
+use Rattle.sheet.specs.declared.Sheet.{Sheet}
 
 -- the bytes of figures
 pub sheet_fits : (figures : List ℕ) → length (sheet_text figures) ≤ sheet_bytes
@@ -98,9 +98,9 @@ refused_fits fault h =
     let field : read_fault_field fault < 2 ^ 64 = omega arith in
     simp length-append (omega (arith, count_fits (read_fault_number fault) number, count_fits (read_fault_field fault) field))
 
-read_fits : (bytes : List ℕ) (r : SheetRead) → read_of bytes ≡ r → length (read_text r) ≤ 2268
-read_fits bytes (Good s) e = rows_fit (figures_of s) (read_fine bytes s e).none_bad 0 count (omega arith)
-read_fits bytes (NotRead fault) e =
+read_fits : (bytes : List ℕ) (r : Result Sheet ReadFault) → read_of bytes ≡ r → length (read_text r) ≤ 2268
+read_fits bytes (Ok s) e = rows_fit (figures_of s) (read_fine bytes s e).none_bad 0 count (omega arith)
+read_fits bytes (Err fault) e =
     let h : read_fault_field fault ≤ 29 = rw e at (field_within bytes) in
     omega (arith, refused_fits fault h)
 

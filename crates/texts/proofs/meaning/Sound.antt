@@ -12,8 +12,8 @@ use lib.ListN.{length}
 use Rattle.laws.specs.Choice.{ifᵇ◌then◌else◌, ◌<ᵇ◌}
 use Rattle.laws.specs.Each.{Each}
 use Rattle.sheet.specs.Fields.{bad_at, standing_of, count as field_count}
-use Rattle.sheet.specs.declared.Standing.{Standing}
-use Rattle.sheet.specs.declared.Standing.TheVariants.{Fine, Outside, Disagrees as DisagreesThere}
+use Rattle.sheet.specs.declared.FieldFault.{FieldFault}
+use Rattle.sheet.specs.declared.FieldFault.TheVariants.{Outside, Disagrees as DisagreesThere}
 use Rattle.typed.specs.Rows.{count}
 use Rattle.typed.specs.Lines.{line_text}
 use Rattle.typed.specs.Reading.{entry_of}
@@ -58,11 +58,11 @@ module _ (figures : List ℕ) (k : ℕ) (line : List ℕ) (h : k < count) where
   unfolding accepted_in
   accepted n said = go (standing_of (stored figures k n) (field_of k)) refl
     where
-      go : (t : Standing) → standing_of (stored figures k n) (field_of k) ≡ t → NoFault (accepted_by t (stored figures k n) k).event
+      go : (t : Result (Unit {0}) FieldFault) → standing_of (stored figures k n) (field_of k) ≡ t → NoFault (accepted_by t (stored figures k n) k).event
           → RowRead figures k line (accepted_by t (stored figures k n) k)
-      go Outside e none = absurd none
-      go DisagreesThere e none = absurd none
-      go Fine e none =
+      go (Err Outside) e none = absurd none
+      go (Err DisagreesThere) e none = absurd none
+      go (Ok tt) e none =
           record {
             figure = n;
             says = figure_of_line k line n said;

@@ -1,4 +1,5 @@
 -- The bytes of a sheet's figures, written into a part of a buffer.
+use Rattle.std.specs.Prelude.{Ok, Err}
 use mathlib.Core.Path.{◌≡◌, refl}
 use mathlib.Core.Bool.{Bool, true, false}
 use mathlib.Core.List.{List, [], append-nil}
@@ -18,31 +19,30 @@ use Rattle.sheet.specs.Sheets.{sheet_of, sheet_from, place_of}
 use Rattle.sheet.specs.declared.Sheet.{Sheet}
 use Rattle.sheet.specs.declared.ReadFault.{ReadFault}
 use Rattle.sheet.specs.declared.ReadFault.TheVariants.{BadField}
-use Rattle.sheet.specs.declared.SheetRead.TheVariants.{Good, NoSheet}
 use Rattle.sheet.proofs.Promises.{figures_come_back}
 use Rattle.sheet.proofs.sheets.OneWriting.{bytes_length}
 use Rattle.texts.specs.Shown.{sheet_text}
 
 -- figures that make a sheet have no bad field, and figures that make none have one
 module _ (figures : List ℕ) where
-  pub none_bad : (s : Sheet) → sheet_from figures ≡ Good s → first_bad figures ≡ 0
+  pub none_bad : (s : Sheet) → sheet_from figures ≡ Ok s → first_bad figures ≡ 0
   unfolding sheet_from
   none_bad s e = go (eqb (first_bad figures) 0) refl e
     where
-      go : (b : Bool) → eqb (first_bad figures) 0 ≡ b → (ifᵇ b then Good (sheet_of figures) else NoSheet (BadField (first_bad figures))) ≡ Good s → first_bad figures ≡ 0
+      go : (b : Bool) → eqb (first_bad figures) 0 ≡ b → (ifᵇ b then Ok (sheet_of figures) else Err (BadField (first_bad figures))) ≡ Ok s → first_bad figures ≡ 0
       go true q e = eqb-true _ _ q
       go false q e = let z : ◌≡◌ {A = ℕ} 0 1 = cc in absurd (omega arith)
 
-  pub some_bad : (fault : ReadFault) → sheet_from figures ≡ NoSheet fault → first_bad figures ≡ 0 → ⊥
+  pub some_bad : (fault : ReadFault) → sheet_from figures ≡ Err fault → first_bad figures ≡ 0 → ⊥
   unfolding sheet_from
-  some_bad fault e z = let f : Good (sheet_of figures) ≡ NoSheet fault = rw (eq-eqb _ _ z) at e in let w : ◌≡◌ {A = ℕ} 0 1 = cc in omega arith
+  some_bad fault e z = let f : Ok (sheet_of figures) ≡ Err fault = rw (eq-eqb _ _ z) at e in let w : ◌≡◌ {A = ℕ} 0 1 = cc in omega arith
 
   module _ (buffer : List ℕ) (at : ℕ) where
-    pub nothing_put : (fault : ReadFault) → sheet_from figures ≡ NoSheet fault → Put buffer at (sheet_text figures) buffer at
+    pub nothing_put : (fault : ReadFault) → sheet_from figures ≡ Err fault → Put buffer at (sheet_text figures) buffer at
     unfolding sheet_text
     nothing_put fault e = rw (ne_eqb _ _ (some_bad fault e)) put_none
 
-    pub sheet_put : (s : Sheet) → length figures ≡ count → at + size ≤ length buffer → sheet_from figures ≡ Good s
+    pub sheet_put : (s : Sheet) → length figures ≡ count → at + size ≤ length buffer → sheet_from figures ≡ Ok s
         → Put buffer at (sheet_text figures) (put_mid at (length buffer - at) buffer (place_of s (mid_of at (length buffer - at) buffer))) (at + size)
     unfolding sheet_text with_text place_of
     sheet_put s long fits e =

@@ -1,25 +1,17 @@
 -- A figure put as its row has it: its decimals behind a point, its word, its level.
 use mathlib.Core.Path.{◌≡◌}
 use mathlib.Core.List.{List, [], ◌∷◌, ◌++◌}
-use Prim.Native.Nat.{ℕ, ◌+◌, ◌-◌, ◌*◌, ◌/◌, ◌%◌, ◌^◌, ◌≤◌, ◌<◌}
+use Prim.Native.Nat.{ℕ, ◌+◌, ◌-◌, ◌*◌, ◌/◌, ◌%◌, ◌≤◌, ◌<◌}
 use native.Mathlib.Omega.{arith}
 use borrow.Author.Tests.{ne_eqb, lt-ltb, le-ltb}
 use lib.ListN.{length, take, drop, set, length-take, drop_of_length-le}
 use Rattle.lines.specs.Decimals.{byte_of, minus, count_text}
-use Rattle.lines.specs.Lines.{Put, count_bytes, place_within, buffer_within}
-use Rattle.lines.proofs.Promises.{count_put, count_fits}
+use Rattle.lines.specs.Lines.{Put}
 use Rattle.lines.proofs.putting.Placing.{then_byte}
 use Rattle.typed.specs.Rows.{bytes_of}
 use Rattle.typed.specs.Lines.{point, token, tenths_text, hundredths_text, level_zero, level_text, word_text, figure_by, figure_text}
 use Rattle.typed.specs.declared.Kind.{Kind}
 use Rattle.typed.specs.declared.table.Row.{Row}
-
--- a count put where there is room for it
-pub decimal_put : (count : ℕ) {at end : ℕ} {buffer later : List ℕ}
-    → (end ≡ place_within count_bytes (count_text count) at buffer) × (later ≡ buffer_within count_bytes (count_text count) at buffer)
-    → count < 2 ^ 64 → at + count_bytes ≤ length buffer → Put buffer at (count_text count) later end × (end ≤ at + count_bytes)
-decimal_put count {at} {end} {buffer} {later} e held fits =
-    let p = count_put count at buffer later end fits e.0 e.1 in (p, omega (arith, count_fits count held))
 
 -- its decimals behind a point
 module _ {buffer later : List ℕ} {at end : ℕ} (n : ℕ) where

@@ -4,10 +4,10 @@ use borrow.Author.Rules.{rules}
 use Rattle.texts.proofs.showing.Sheets.{nothing_put, sheet_put}
 use Rattle.texts.proofs.showing.put_figures.Goals as goal
 
-pub returns-in-Good : goal.returns-in-Good
-returns-in-Good c =
-    rw c.write.ensures.1 (sheet_put c.args.figures c.args.buffer.now c.args.at _ (search rules) c.requires (sym c.sheet_from-made.ensures ∙ c.in-Good.is))
+pub returns-in-Ok : goal.returns-in-Ok
+returns-in-Ok c =
+    rw c.write.ensures.1 (sheet_put c.args.figures c.args.buffer.now c.args.at _ (search rules) c.requires (sym c.sheet_from-made.ensures ∙ c.in-Ok.is))
 
-pub returns-in-NoSheet : goal.returns-in-NoSheet
-returns-in-NoSheet c =
-    nothing_put c.args.figures c.args.buffer.now c.args.at _ (sym c.sheet_from-made.ensures ∙ c.in-NoSheet.is)
+pub returns-in-Err : goal.returns-in-Err
+returns-in-Err c =
+    nothing_put c.args.figures c.args.buffer.now c.args.at _ (sym c.sheet_from-made.ensures ∙ c.in-Err.is)

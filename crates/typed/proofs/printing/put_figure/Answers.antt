@@ -1,12 +1,12 @@
 -- `typed::printing::put_figure` meets its contract: an arm for each kind of row.
 use native.Mathlib.Omega.{arith}
-use Rattle.typed.proofs.printing.Figures.{decimal_put, figure_by_lem}
+use Rattle.typed.proofs.printing.Figures.{figure_by_lem}
 use Rattle.typed.proofs.printing.put_figure.Goals as goal
 
 pub returns-in-Whole : goal.returns-in-Whole
 returns-in-Whole c =
     let a = c.args in
-    let p = decimal_put _ c.put_decimal.ensures (omega arith) (omega arith) in
+    let p = c.put_count.ensures in
     (rw (figure_by_lem a.row a.figure c.in-Whole.is) p.0, omega arith)
 
 pub returns-in-Tenths : goal.returns-in-Tenths

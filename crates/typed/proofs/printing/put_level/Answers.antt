@@ -2,28 +2,28 @@
 use native.Mathlib.Omega.{arith}
 use lib.ListN.{length-set}
 use Rattle.lines.proofs.putting.Placing.{put_on, byte_then}
-use Rattle.typed.proofs.printing.Figures.{decimal_put, level_record, level_below, level_above}
+use Rattle.typed.proofs.printing.Figures.{level_record, level_below, level_above}
 use Rattle.typed.proofs.printing.put_level.Goals as goal
 
 pub returns-then-figure-eq0 : goal.returns-then-figure-eq0
 returns-then-figure-eq0 c =
-    let p = c.put_bytes.ensures in
+    let p = c.put.ensures.0 in
     (rw (level_record _ c.if-figure-eq0.true) p, omega arith)
 
 pub shape_of-buffer-then-figure-lt-LEVEL_ZERO : goal.shape_of-buffer-then-figure-lt-LEVEL_ZERO
 shape_of-buffer-then-figure-lt-LEVEL_ZERO c =
-    let g = c.put_bytes-sign in
+    let g = c.put-sign in
     omega (arith, length-set g.new.buffer g.result 45)
 
 pub returns-then-figure-lt-LEVEL_ZERO : goal.returns-then-figure-lt-LEVEL_ZERO
 returns-then-figure-lt-LEVEL_ZERO c =
-    let q = c.put_bytes-sign.ensures in
-    let p = decimal_put _ c.put_decimal.ensures (omega arith) (simp length-set (omega arith)) in
+    let q = c.put-sign.ensures.0 in
+    let p = c.put_count.ensures in
     let text = level_below _ c.if-figure-eq0.false c.if-figure-lt-LEVEL_ZERO.true in
     (rw text (put_on q (byte_then p.0 (omega arith)) (omega arith)), omega arith)
 
 pub returns : goal.returns
 returns c =
-    let q = c.put_bytes-sign.ensures in
-    let p = decimal_put _ c.put_decimal-2.ensures (omega arith) (omega arith) in
+    let q = c.put-sign.ensures.0 in
+    let p = c.put_count-2.ensures in
     (rw (level_above _ c.if-figure-lt-LEVEL_ZERO.false) (put_on q p.0 (omega arith)), omega arith)
