@@ -48,10 +48,7 @@ fn digits_read(bytes: &[u8]) -> u32
 fn below_zero(depth: u32) -> u32
     ensures { result ≡ below_zero depth }
 {
-    if depth < printing::LEVEL_ZERO {
-        return printing::LEVEL_ZERO - depth;
-    }
-    0
+    printing::LEVEL_ZERO.saturating_sub(depth)
 }
 
 // The figure of a level that bytes may stand for.

@@ -5,7 +5,8 @@ ghost use Rattle.typed.specs.Rows.{row_at, values_of};
 use crate::{COUNT, Kind, LEVEL};
 use sheet::Range;
 
-// A name, how the figure is typed, the unit, and the words of its codes, 16 bytes each. What is shorter ends in spaces.
+// A name, how the figure is typed, the unit, and the words of its codes, 16 bytes each. What is shorter ends in spaces: the places are
+// those of the definition, and what is promised of a line speaks of them.
 #[derive(Clone, Copy)]
 pub struct Row {
     pub name: [u8; 16],
