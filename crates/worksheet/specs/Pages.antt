@@ -32,7 +32,6 @@ use Rattle.worksheet.specs.Speeds.{speed_part}
 use Rattle.worksheet.specs.Traffic.{lanes_part}
 use Rattle.worksheet.specs.Widths.{width_part}
 use Rattle.sheet.specs.declared.ReadFault.{ReadFault}
-use Rattle.width.specs.declared.WidthFault.TheVariants.{NoWidthEntry}
 
 -- the level of a sheet that has one
 abbrev pub found_level : Result Level LevelFault → Level

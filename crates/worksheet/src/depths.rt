@@ -10,7 +10,6 @@ use depth::{DepthFault, DepthFigures, Finding, Stretch, Try, Worksheet};
 use lines::fitting;
 
 // The numbers of a try: which it is, and what it has.
-#[tactic(auto, unfolding(crate::specs::Depths::try_numbers))]
 fn put_numbers(number: u64, tried: Try, buffer: &mut [u8], at: usize) -> usize
     requires { at + 500 ≤ length buffer.old }
     ensures { Put buffer.old at (try_numbers number tried) buffer.new result × (result ≤ at + 500) }
@@ -131,7 +130,6 @@ fn put_try(number: u64, tried: Try, knots: u8, buffer: &mut [u8], at: usize) -> 
 }
 
 // Each try, in their order.
-#[tactic(auto, unfolding(crate::specs::Depths::tries_text))]
 fn put_tries(worksheet: Worksheet, knots: u8, buffer: &mut [u8], at: usize) -> usize
     requires { at + 2400 ≤ length buffer.old }
     ensures { Put buffer.old at (tries_text worksheet knots) buffer.new result × (result ≤ at + 2400) }

@@ -22,7 +22,6 @@ fn continues_letter(byte: u8) -> bool
 }
 
 // The greatest place up to one at which no letter is torn.
-#[tactic(auto, unfolding(crate::specs::Framing::whole_to))]
 fn whole_to(name: &[u8], most: usize) -> usize
     requires { most < length name.now }
     ensures { (result ≡ whole_to name.now most) × (result ≤ most) }
@@ -74,7 +73,6 @@ fn put_name(name: &[u8], buffer: &mut [u8], at: usize) -> usize
 }
 
 // Bytes as they are shown.
-#[tactic(auto, unfolding(texts::specs::Messages::shown))]
 fn put_visible(bytes: &[u8], buffer: &mut [u8], at: usize) -> usize
     requires { at + length bytes.now ≤ length buffer.old }
     ensures { Put buffer.old at (map shown bytes.now) buffer.new result × (result ≤ at + length bytes.now) }
@@ -106,7 +104,6 @@ fn put_byte(byte: u8, buffer: &mut [u8], at: usize) -> usize
 }
 
 // The digits of bytes.
-#[tactic(auto, unfolding(crate::specs::Framing::hex_text))]
 fn put_hex(bytes: &[u8], buffer: &mut [u8], at: usize) -> usize
     requires { at + 2 * length bytes.now ≤ length buffer.old }
     ensures { Put buffer.old at (hex_text bytes.now) buffer.new result × (result ≤ at + 2 * length bytes.now) }

@@ -37,7 +37,6 @@ fn lanes_for(sheet: Sheet) -> Lanes
 }
 
 // The level and the lanes.
-#[tactic(auto, unfolding(crate::specs::Pages::front_text))]
 fn put_front(sheet: Sheet, steps: LevelSteps, buffer: &mut [u8], at: usize) -> usize
     requires { at + 2040 ≤ length buffer.old }
     ensures { Put buffer.old at (front_text sheet steps) buffer.new result × (result ≤ at + 2040) }
@@ -84,7 +83,6 @@ fn section_for(
 }
 
 // The width, the bend and the speed of a sheet that has a depth.
-#[tactic(auto, unfolding(crate::specs::Pages::sized_text))]
 fn put_sized(
     sheet: Sheet,
     level: Level,
@@ -171,7 +169,6 @@ fn put_answered(
 }
 
 // 4, 5 and 6.
-#[tactic(auto, unfolding(crate::specs::Pages::no_level_parts))]
 fn put_no_level(
     sheet: Sheet,
     steps: LevelSteps,
@@ -187,7 +184,6 @@ fn put_no_level(
 }
 
 // 7 and 8.
-#[tactic(auto, unfolding(crate::specs::Pages::no_width_parts))]
 fn put_no_width(
     sheet: Sheet,
     steps: LevelSteps,

@@ -40,7 +40,6 @@ fn values_of_field(field: u8) -> Range
 }
 
 // What a field may hold.
-#[tactic(auto, unfolding(crate::specs::Refusals::may_hold))]
 fn put_may_hold(field: u8, buffer: &mut [u8], at: usize) -> usize
     requires { at + 200 ≤ length buffer.old }
     ensures { Put buffer.old at (may_hold field) buffer.new result × (result ≤ at + 200) }
@@ -66,7 +65,6 @@ fn put_field_note(field: u8, buffer: &mut [u8], at: usize) -> usize
     }
 }
 
-#[tactic(auto, unfolding(crate::specs::Refusals::bad_field))]
 fn put_bad_field(field: u8, buffer: &mut [u8], at: usize) -> usize
     requires { at + 760 ≤ length buffer.old }
     ensures { Put buffer.old at (bad_field field) buffer.new result × (result ≤ at + 760) }
@@ -182,7 +180,6 @@ pub fn put_no_width(
 }
 
 // 14: over 120, or without end.
-#[tactic(auto, unfolding(crate::specs::Refusals::silt_text))]
 fn put_silt(last: Try, filling: u64, buffer: &mut [u8], at: usize) -> usize
     requires { at + 1300 ≤ length buffer.old }
     ensures { Put buffer.old at (silt_text last filling) buffer.new result × (result ≤ at + 1300) }
@@ -236,7 +233,6 @@ fn put_no_cut(
     }
 }
 
-#[tactic(auto, unfolding(crate::specs::Refusals::no_depth_text))]
 pub fn put_no_depth(
     fault: DepthFault,
     stretch: depth::Stretch,

@@ -26,7 +26,6 @@ pub fn put_head(page: u64, buffer: &mut [u8], at: usize) -> usize
 }
 
 // A new page after every fiftieth line.
-#[tactic(auto, unfolding(crate::specs::Routes::new_page))]
 fn put_new_page(index: u64, buffer: &mut [u8], at: usize) -> usize
     requires { at + 1401 ≤ length buffer.old }
     ensures { Put buffer.old at (new_page index) buffer.new result × (result ≤ at + 1401) }
@@ -42,7 +41,6 @@ fn put_new_page(index: u64, buffer: &mut [u8], at: usize) -> usize
 }
 
 // The line of a stretch that is answered.
-#[tactic(auto, unfolding(crate::specs::Routes::answered_line))]
 fn put_answered(index: u64, figures: Figures, buffer: &mut [u8], at: usize) -> usize
     requires { at + 450 ≤ length buffer.old }
     ensures { Put buffer.old at (answered_line index figures) buffer.new result × (result ≤ at + 450) }
@@ -92,7 +90,6 @@ fn put_by(index: u64, answer: Result<Figures, Reason>, buffer: &mut [u8], at: us
 }
 
 // The same, behind the head of a new page where one begins.
-#[tactic(auto, unfolding(crate::specs::Routes::stretch_text))]
 pub fn put_line(index: u64, answer: Result<Figures, Reason>, buffer: &mut [u8], at: usize) -> usize
     requires { at + 1851 ≤ length buffer.old }
     ensures { Put buffer.old at (stretch_text index answer) buffer.new result × (result ≤ at + 1851) }
@@ -113,7 +110,6 @@ fn greatest_figure(answered: u64, figure: u32) -> Figure
 }
 
 // The end of the route.
-#[tactic(auto, unfolding(crate::specs::Routes::foot_text))]
 pub fn put_foot(
     totals: Totals,
     greatest: Greatest,
@@ -158,7 +154,6 @@ pub fn put_foot(
 }
 
 // With one more stretch that is answered.
-#[tactic(auto, unfolding(crate::specs::Routes::with_figures))]
 pub fn greater(greatest: Greatest, figures: Figures) -> Greatest
     ensures { result ≡ with_figures greatest figures }
 {

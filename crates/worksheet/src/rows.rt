@@ -24,7 +24,6 @@ fn put_row(figures: [u32; sheet::COUNT], i: usize, buffer: &mut [u8], at: usize)
 }
 
 // A row, and the fourteenth behind it.
-#[tactic(auto, unfolding(crate::specs::Rows::pair_text))]
 fn put_pair(figures: [u32; sheet::COUNT], i: usize, buffer: &mut [u8], at: usize) -> usize
     requires { (i < 14) × (at + 200 ≤ length buffer.old) }
     ensures { Put buffer.old at (pair_text figures i) buffer.new result × (result ≤ at + 200) }
@@ -45,7 +44,6 @@ pub fn put_rows(figures: [u32; sheet::COUNT], buffer: &mut [u8], at: usize) -> u
     fitting::put(b"\n", buffer, last)
 }
 
-#[tactic(auto, unfolding(crate::specs::Rows::pairs_text))]
 fn put_pairs(figures: [u32; sheet::COUNT], buffer: &mut [u8], at: usize) -> usize
     requires { at + 2899 ≤ length buffer.old }
     ensures { Put buffer.old at (pairs_text figures 0 14) buffer.new result × (result ≤ at + 2899) }

@@ -24,7 +24,6 @@ fn put_greater(sides: Sides, buffer: &mut [u8], at: usize) -> usize
 }
 
 // Both sides of the rule.
-#[tactic(auto, unfolding(crate::specs::Traffic::traffic_text))]
 fn put_sides(sides: Sides, buffer: &mut [u8], at: usize) -> usize
     requires { at + 1000 ≤ length buffer.old }
     ensures { Put buffer.old at (traffic_text sides) buffer.new result × (result ≤ at + 1000) }

@@ -1,8 +1,6 @@
 -- `worksheet::depths::put_tries` meets its contract: three lines at most have room.
-use mathlib.Core.Path.{◌≡◌, refl, ap, sym, ◌∙◌}
-use Prim.Native.Nat.{◌≤◌}
+use mathlib.Core.Path.{◌≡◌, refl, ap, sym}
 use native.Mathlib.Omega.{arith}
-use borrow.Author.Rules.{rules}
 use lib.ListN.{length, length-take}
 use Rattle.worksheet.proofs.Tries.{lines_of, none_tried, one_tried, all_tried}
 use Rattle.worksheet.proofs.depths.put_tries.Goals as goal

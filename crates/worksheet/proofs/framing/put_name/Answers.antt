@@ -1,7 +1,6 @@
 -- `worksheet::framing::put_name` meets its contract: nothing, or spaces and the bytes that are shown.
 use mathlib.Core.Path.{◌∙◌, sym}
 use native.Mathlib.Omega.{arith}
-use borrow.Author.Tests.{eq-eqb, ne_eqb}
 use lib.ListN.{take, length-map}
 use lib.Seq.{length-take-le}
 use Rattle.texts.specs.Messages.{shown}

@@ -1,5 +1,5 @@
 -- `worksheet::framing::whole_to` meets its contract: the answer is the place it stands at, or that of the one before.
-use mathlib.Core.Path.{◌≡◌, refl, sym, ◌∙◌}
+use mathlib.Core.Path.{◌≡◌, sym, ◌∙◌}
 use Prim.Native.Nat.{◌+◌, ◌-◌}
 use native.Mathlib.Omega.{arith}
 use Rattle.worksheet.proofs.framing.Names.{whole_here, whole_before, whole_first}

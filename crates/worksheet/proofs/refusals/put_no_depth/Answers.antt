@@ -1,7 +1,6 @@
 -- `worksheet::refusals::put_no_depth` meets its contract: by the last try of the worksheet.
 use native.Mathlib.Nat.{mul-le-mul}
 use native.Mathlib.Omega.{arith}
-use borrow.Author.Rules.{rules}
 use Rattle.worksheet.specs.Refusals.{no_depth_text}
 use Rattle.worksheet.proofs.Tries.{last_line}
 use Rattle.worksheet.proofs.refusals.put_no_depth.Goals as goal

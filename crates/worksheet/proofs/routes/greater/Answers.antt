@@ -1,6 +1,6 @@
 -- `worksheet::routes::greater` meets its contract: the greater cut and the greater width.
 use mathlib.Core.Path.{◌≡◌, refl}
-use Prim.Native.Nat.{ℕ, max, ◌<◌}
+use Prim.Native.Nat.{ℕ, max}
 use mathlib.Core.Bool.{Bool, true, false}
 use native.Mathlib.Omega.{arith}
 use borrow.Author.Rules.{rules}
