@@ -1,3 +1,2 @@
-pub mod Signs
 mod Natural
 pub mod Promises

@@ -1,22 +1,13 @@
 -- What the sums and products of the depth come to, at most, for numbers of the widths that a stretch has.
 use Prim.Native.Nat.{ℕ, ◌+◌, ◌-◌, ◌*◌, ◌^◌, ◌<◌}
 use mathlib.Core.Path.{◌≡◌}
-use native.Mathlib.Nat.{le_antisymm, le-div_iff_mul-le, div-le_self}
+use native.Mathlib.Nat.{div-le_self}
 use native.Mathlib.Omega.{arith}
 use Rattle.laws.specs.Rounding.{up}
-use Rattle.laws.proofs.Rounding.{up_le}
 use Rattle.laws.proofs.Products.{product_lt}
-use Rattle.std.specs.Int.{div_ceil}
-use Rattle.std.proofs.lemmas.Grind.{div_ceil_times}
 use Rattle.depth.specs.declared.Stretch.{Stretch}
 use Rattle.depth.specs.declared.Allowances.{Allowances}
 use Rattle.depth.specs.Depth.{allowances_of, sailing_with}
-
--- the language's quotient that is rounded up
-pub ceiling_is : (a b : ℕ) → 0 < b → div_ceil a b ≡ up a b
-ceiling_is a b some =
-    let times = div_ceil_times a b some in
-    le_antisymm ((le-div_iff_mul-le some).1 (omega (arith, times.1))) ((up_le a b (div_ceil a b) some).1 times.0)
 
 pub filling_product : {filling dug : ℕ} → filling < 100000 → dug < 2 ^ 19 → filling * dug < 2 ^ 36
 filling_product {filling} f d = product_lt 17 19 (let h : filling < 2 ^ 17 = omega arith in h) d

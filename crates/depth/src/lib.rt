@@ -151,6 +151,7 @@ impl Refusal for DepthFault {
 }
 
 // The dredging interval of a code; a code past the last counts as the last.
+#[tactic(auto, unfolding(crate::specs::Interval::interval_of))]
 pub fn interval_of(code: u8) -> u16
     ensures { result ≡ interval_of code }
 {
@@ -216,6 +217,7 @@ fn z1(draft: u16, soil: u8) -> u64
 }
 
 // The allowances of a stretch.
+#[tactic(auto, unfolding(crate::specs::Depth::allowances_of))]
 pub fn allowances_of(stretch: Stretch) -> Allowances
     ensures { (result ≡ allowances_of stretch) × (result.list + result.keel + result.wave < 2 ^ 18) }
 {

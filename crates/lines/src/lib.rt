@@ -85,6 +85,7 @@ pub fn put_route_line(
 }
 
 // Puts a count at a place and answers the place after it; the same place, and nothing put, where 20 bytes do not fit.
+#[tactic(auto, unfolding(crate::specs::Lines::place_within, crate::specs::Lines::buffer_within))]
 pub fn put_decimal(count: u64, buffer: &mut [u8], at: usize) -> usize
     ensures { (result ≡ place_within count_bytes (count_text count) at buffer.old) × (buffer.new ≡ buffer_within count_bytes (count_text count) at buffer.old) }
 {
@@ -95,6 +96,7 @@ pub fn put_decimal(count: u64, buffer: &mut [u8], at: usize) -> usize
 }
 
 // Puts a signed number likewise; the same place, and nothing put, where 21 bytes do not fit.
+#[tactic(auto, unfolding(crate::specs::Lines::place_within, crate::specs::Lines::buffer_within))]
 pub fn put_signed(number: i32, buffer: &mut [u8], at: usize) -> usize
     ensures { (result ≡ place_within number_bytes (number_text number) at buffer.old) × (buffer.new ≡ buffer_within number_bytes (number_text number) at buffer.old) }
 {
@@ -105,6 +107,7 @@ pub fn put_signed(number: i32, buffer: &mut [u8], at: usize) -> usize
 }
 
 // Puts bytes at a place and answers the place after them; the same place, and nothing put, where they do not fit.
+#[tactic(auto, unfolding(crate::specs::Lines::place_within, crate::specs::Lines::buffer_within))]
 pub fn put_bytes(text: &[u8], buffer: &mut [u8], at: usize) -> usize
     ensures { (result ≡ place_within (length text.now) text.now at buffer.old) × (buffer.new ≡ buffer_within (length text.now) text.now at buffer.old) }
 {

@@ -2,7 +2,7 @@
 use Rattle.std.specs.Prelude.{◌≡◌, Bool, false, ◌||◌, ◌&&◌, not, List, [], ◌∷◌, ◌≢◌, ℕ, zero, suc, ◌-◌, ◌<◌, get_or, Option, Some, None, Result, Ok, Err}
 use Rattle.std.specs.Bool.{beq}
 use Rattle.laws.specs.Choice.{ifᵇ◌then◌else◌, ◌≤ᵇ◌, ◌<ᵇ◌, ◌=ᵇ◌}
-use Rattle.laws.specs.First.{first_from, first_of}
+use Rattle.laws.specs.First.{first_of}
 use Rattle.sheet.specs.declared.Range.{Range}
 use Rattle.sheet.specs.declared.FieldFault.{FieldFault}
 use Rattle.sheet.specs.declared.FieldFault.TheVariants.{Outside, Disagrees}
@@ -92,12 +92,9 @@ pair_bad figures k =
 unfoldable pub bad_at : List ℕ → ℕ → Bool
 bad_at figures k = (nth figures k <ᵇ least k) || ((greatest k <ᵇ nth figures k) || pair_bad figures k)
 
--- the same without the pairs, and the number of the first such field past the first from, up to to
+-- the same without the pairs
 unfoldable pub outside_at : List ℕ → ℕ → Bool
 outside_at figures k = (nth figures k <ᵇ least k) || (greatest k <ᵇ nth figures k)
-
-unfoldable pub first_outside : List ℕ → ℕ → ℕ → ℕ
-first_outside figures from to = first_from (outside_at figures) from (to - from)
 
 -- the values of the field after the first k
 unfoldable pub range_of : ℕ → Range
@@ -109,10 +106,6 @@ standing_of figures k =
     ifᵇ count ≤ᵇ k
     then Ok tt
     else (ifᵇ outside_at figures k then Err Outside else (ifᵇ pair_bad figures k then Err Disagrees else Ok tt))
-
--- the number of the first bad field past the first from, 0 where there is none
-unfoldable pub first_bad_from : List ℕ → ℕ → ℕ
-first_bad_from figures from = first_from (bad_at figures) from (count - from)
 
 -- the number of the first bad field, 0 where there is none
 unfoldable pub first_bad : List ℕ → ℕ

@@ -1,6 +1,7 @@
 // The table of fields and their rules (definition, sections 1.1 and 1.2).
-ghost use Rattle.std.specs.Prelude.{◌≡◌, ◌<◌, ◌≤◌};
-ghost use Rattle.sheet.specs.Fields.{count, groups, field_at, width, outside_at, first_outside, pair_bad, bad_at, first_bad_from, first_bad, named};
+ghost use Rattle.std.specs.Prelude.{◌≡◌, ◌<◌, ◌≤◌, ◌-◌, ℕ, Bool};
+ghost use Rattle.laws.specs.First.{first_from};
+ghost use Rattle.sheet.specs.Fields.{count, groups, field_at, width, outside_at, pair_bad, bad_at, first_bad, named};
 
 use crate::COUNT;
 
@@ -108,13 +109,15 @@ pub fn outside(figures: [u32; COUNT], i: usize) -> bool
     figure < field.least || field.greatest < figure
 }
 
-// The number of the first field past the first `from`, up to `to`, that is outside its values.
-fn first_outside(figures: [u32; COUNT], from: usize, to: usize) -> Option<u8>
-    requires { to ≤ count }
-    ensures { result ≡ named (first_outside figures from to) }
+// The number of the first field past the first `from`, up to `to`, for which a test holds.
+fn first_where<F: Fn(usize) -> bool>(from: usize, to: usize, test: F) -> Option<u8>
+    requires within { to ≤ count }
+    requires callable { (i : ℕ) → i < to → F.pre test i }
+    ensures { (holds : ℕ → Bool) → ((i : ℕ) (b : Bool) → i < to → F.post test i b → b ≡ holds i)
+        → result ≡ named (first_from holds from (to - from)) }
 {
     for i in from..to {
-        if outside(figures, i) {
+        if test(i) {
             return Some(i as u8 + 1);
         }
     }
@@ -130,31 +133,19 @@ fn bad_at(figures: [u32; COUNT], i: usize) -> bool
     outside(figures, i) || pair_bad(figures, i)
 }
 
-// The number of the first bad field past the first `from`.
-fn first_bad_from(figures: [u32; COUNT], from: usize) -> Option<u8>
-    ensures { result ≡ named (first_bad_from figures from) }
-{
-    for at in from..COUNT {
-        if bad_at(figures, at) {
-            return Some(at as u8 + 1);
-        }
-    }
-    None
-}
-
 // The number of the first bad field. Up to field 25 none is tested against another. Short runs of fields: the compiler
 // lays each out flat, with the table's numbers in their places.
 pub fn first_bad(figures: [u32; COUNT]) -> Option<u8>
     ensures { result ≡ named (first_bad figures) }
 {
-    if let Some(bad) = first_outside(figures, 0, 9) {
+    if let Some(bad) = first_where(0, 9, |i| outside(figures, i)) {
         return Some(bad);
     }
-    if let Some(bad) = first_outside(figures, 9, 17) {
+    if let Some(bad) = first_where(9, 17, |i| outside(figures, i)) {
         return Some(bad);
     }
-    if let Some(bad) = first_outside(figures, 17, 25) {
+    if let Some(bad) = first_where(17, 25, |i| outside(figures, i)) {
         return Some(bad);
     }
-    first_bad_from(figures, 25)
+    first_where(25, COUNT, |i| bad_at(figures, i))
 }

@@ -3,29 +3,21 @@ use crate::places;
 use datum::{BelowLevel, Level};
 use sheet::{COUNT, ReadFault, Sheet};
 
+// The figures of a sheet; those that are missing are 0.
 fn array_of(figures: &[u32]) -> [u32; COUNT] {
-    let mut f = [0u32; COUNT];
-    let mut i: usize = 0;
-    while i < COUNT {
-        if i < figures.len() {
-            f[i] = figures[i];
-        }
-        i += 1;
-    }
-    f
+    let mut all = [0u32; COUNT];
+    places::store(figures, &mut all, 0);
+    all
 }
 
 // The figures of a sheet into the place and 0; or the refusal's number, and a hundred times the field that it names.
 fn answer_of(answer: Result<Sheet, ReadFault>, place: &mut [u32]) -> u32 {
     match answer {
         Ok(sheet) => {
-            let figures = sheet::figures_of(sheet);
-            places::store(&figures, place, 0);
+            places::store(&sheet::figures_of(sheet), place, 0);
             0
         }
-        Err(fault) => {
-            sheet::read_fault_number(fault) as u32 + 100 * sheet::read_fault_field(fault) as u32
-        }
+        Err(fault) => places::refusal_of(fault),
     }
 }
 
@@ -54,24 +46,16 @@ fn with_figure(good: Sheet, field: u32, figure: u32) -> Sheet {
     sheet
 }
 
-fn written(sheet: Sheet, place: &mut [u8]) -> u32 {
-    let answer = sheet::write(sheet, place);
-    match answer {
-        Ok(()) => 0,
-        Err(fault) => {
-            sheet::write_fault_number(fault) as u32 + 100 * sheet::write_fault_field(fault) as u32
-        }
-    }
-}
-
 // Writes the sheet of 29 figures, with one field set to another figure: its number and that figure stand behind them.
 #[unsafe(no_mangle)]
 pub extern "C" fn trial_write(figures: &[u32], place: &mut [u8]) -> u32 {
-    let made = sheet::sheet_from(array_of(figures));
+    let Ok(good) = sheet::sheet_from(array_of(figures)) else {
+        return 10000;
+    };
     let field = places::figure_at(figures, COUNT);
     let figure = places::figure_at(figures, COUNT + 1);
-    match made {
-        Ok(sheet) => written(with_figure(sheet, field, figure), place),
-        Err(_) => 10000,
+    match sheet::write(with_figure(good, field, figure), place) {
+        Ok(()) => 0,
+        Err(fault) => places::refusal_of(fault),
     }
 }

@@ -1,4 +1,3 @@
-mod Ceilings
 mod Totals
 mod Meaning
 mod Growth

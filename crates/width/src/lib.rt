@@ -194,7 +194,7 @@ pub fn items_of(stretch: Stretch, entries: Entries) -> Items
 }
 
 // The width of a stretch with its entries, in cm: its tenths of the beam, rounded up once.
-#[tactic(auto, using(crate::proofs::Ceilings::rounded_up), unfolding(crate::specs::Width::width_of))]
+#[tactic(auto, using(laws::proofs::Rounding::rounded_up), unfolding(crate::specs::Width::width_of))]
 pub fn width_of(stretch: Stretch, entries: Entries) -> u32
     ensures value { result ≡ width_of stretch entries }
     ensures small { result < 2 ^ 31 }
@@ -231,7 +231,7 @@ pub fn lane_and_added(items: Items) -> u16
 }
 
 // The least whole metres of radius that are not too tight for a turn, by the ship's length in cm.
-#[tactic(auto, using(crate::proofs::Ceilings::rounded_up), unfolding(crate::specs::Bends::least_radius))]
+#[tactic(auto, using(laws::proofs::Rounding::rounded_up), unfolding(crate::specs::Bends::least_radius))]
 pub fn least_radius(turn: u8, length: u16) -> u32
     ensures { result ≡ least_radius turn length }
 {

@@ -4,7 +4,8 @@ use Prim.Native.Nat.{◌-◌, ◌*◌}
 use native.Mathlib.Omega.{arith}
 use Rattle.laws.specs.Rounding.{up}
 use Rattle.depth.specs.Depth.{filling}
-use Rattle.depth.proofs.Sizes.{ceiling_is, silt_size}
+use Rattle.laws.proofs.Rounding.{ceiling_is}
+use Rattle.depth.proofs.Sizes.{silt_size}
 use Rattle.depth.proofs.cuts.Settling.{settles}
 use Rattle.depth.proofs.Stretch.silt_over.Goals as goal
 

@@ -25,6 +25,3 @@ pub loop-figure-preserved : goal.loop-figure-preserved
 loop-figure-preserved c =
     sym (depth_on (deep _ _) c.loop-figure.figure (c.sailing-s.result + 121) (omega arith) (sym c.is_deep.ensures ∙ c.if-is_deep.false))
     ∙ c.loop-figure.invariant
-
-pub returns : goal.returns
-returns c = depth_end (deep _ _) c.loop-figure.figure (c.sailing-s.result + 121) (omega arith) ∙ c.loop-figure.invariant

@@ -4,7 +4,7 @@ use Prim.Native.Nat.{◌*◌, ◌^◌, ◌<◌}
 use native.Mathlib.Omega.{arith}
 use Rattle.laws.specs.Rounding.{up}
 use Rattle.laws.proofs.Products.{product_lt}
-use Rattle.depth.proofs.Sizes.{ceiling_is}
+use Rattle.laws.proofs.Rounding.{ceiling_is}
 use Rattle.depth.proofs.cuts.Settling.{z4_none, z4_some}
 use borrow.Author.Rules.{rules}
 use Rattle.engine.proofs.InColumn.silt_at.Goals as goal

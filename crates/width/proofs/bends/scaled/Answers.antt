@@ -2,7 +2,7 @@
 use mathlib.Core.Path.{sym}
 use native.Mathlib.Omega.{arith}
 use Rattle.laws.proofs.Quotients.{up_parts}
-use Rattle.width.proofs.Ceilings.{rounded_up}
+use Rattle.laws.proofs.Rounding.{rounded_up}
 use Rattle.width.proofs.bends.Products.{whole_within, rest_within}
 use Rattle.width.proofs.bends.scaled.Goals as goal
 

@@ -6,7 +6,7 @@ use native.Mathlib.Omega.{arith}
 use borrow.Author.Rules.{rules}
 use Rattle.laws.specs.Rounding.{up}
 use Rattle.lanes.proofs.Promises.{lanes_within}
-use Rattle.width.proofs.Ceilings.{rounded_up}
+use Rattle.laws.proofs.Rounding.{rounded_up}
 use Rattle.width.proofs.bends.Products.{square_within, turned_within, ship_within, widening_within, widening_is}
 use Rattle.width.proofs.bends.widening.Goals.{After-scaled}
 use Rattle.width.proofs.bends.widening.Goals as goal
