@@ -66,7 +66,7 @@ sized_text s level lanes e d =
     ++ speed_part (section_for s level lanes e d) s.speed
 
 abbrev pub sized_by : Sheet → Level → Lanes → Result Entries WidthFault → Result DepthFigures DepthFault → List ℕ
-sized_by s level lanes (Err NoWidthEntry) d = []
+sized_by s level lanes (Err fault) d = []
 sized_by s level lanes (Ok e) (Err fault) = []
 sized_by s level lanes (Ok e) (Ok d) = sized_text s level lanes e d
 
@@ -99,7 +99,7 @@ abbrev pub no_section : Section
 no_section = record { natural = record { 0 = 0 }; cut = record { 0 = 0 }; width = 0; slope = 0 }
 
 abbrev pub section_by : Sheet → Level → Lanes → Result Entries WidthFault → Result DepthFigures DepthFault → Section
-section_by s level lanes (Err NoWidthEntry) d = no_section
+section_by s level lanes (Err fault) d = no_section
 section_by s level lanes (Ok e) (Err fault) = no_section
 section_by s level lanes (Ok e) (Ok d) = section_for s level lanes e d
 

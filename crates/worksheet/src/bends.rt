@@ -48,6 +48,7 @@ fn put_bend_of(
 }
 
 // The part of the bend.
+#[tactic(auto, unfolding(crate::specs::Bends::bend_part))]
 pub fn put_bend(
     turn: u8,
     radius: u16,

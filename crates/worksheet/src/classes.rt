@@ -21,6 +21,7 @@ fn class_figures(figure: u32, class: u8, limits: Limits) -> [Figure; 4]
 }
 
 // The part of the classes.
+#[tactic(auto, unfolding(crate::specs::Classes::classes_part))]
 pub fn put_classes(deadweight: u32, figures: Figures, buffer: &mut [u8], at: usize) -> usize
     requires { at + 1600 ≤ length buffer.old }
     ensures { Put buffer.old at (classes_part deadweight figures) buffer.new result × (result ≤ at + 1600) }

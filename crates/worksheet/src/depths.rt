@@ -10,6 +10,7 @@ use depth::{DepthFault, DepthFigures, Finding, Stretch, Try, Worksheet};
 use lines::fitting;
 
 // The numbers of a try: which it is, and what it has.
+#[tactic(auto, unfolding(crate::specs::Depths::try_numbers))]
 fn put_numbers(number: u64, tried: Try, buffer: &mut [u8], at: usize) -> usize
     requires { at + 500 ≤ length buffer.old }
     ensures { Put buffer.old at (try_numbers number tried) buffer.new result × (result ≤ at + 500) }
@@ -38,6 +39,7 @@ fn put_numbers(number: u64, tried: Try, buffer: &mut [u8], at: usize) -> usize
 }
 
 // A column whose silt is too much: over 120, or without end.
+#[tactic(auto, unfolding(crate::specs::Depths::silt_line))]
 fn put_silt(number: u64, tried: Try, buffer: &mut [u8], at: usize) -> usize
     requires { at + 800 ≤ length buffer.old }
     ensures { Put buffer.old at (silt_line number tried) buffer.new result × (result ≤ at + 800) }
@@ -104,24 +106,23 @@ fn put_found(
     requires { at + 800 ≤ length buffer.old }
     ensures { Put buffer.old at (try_by finding number tried knots) buffer.new result × (result ≤ at + 800) }
 {
-    match finding {
-        Ok(Finding::Stays) => {
-            let end = put_numbers(number, tried, buffer, at);
-            fitting::put(b"stays\n", buffer, end)
-        }
-        Ok(Finding::Moves) => {
-            let end = put_numbers(number, tried, buffer, at);
-            filling::put(
-                b"moves to %0\n",
-                &[filling::letter(tried.falls_in)],
-                buffer,
-                end,
-            )
-        }
-        Err(fault) => put_unusable(fault, number, tried, knots, buffer, at),
+    let found = match finding {
+        Ok(found) => found,
+        Err(fault) => return put_unusable(fault, number, tried, knots, buffer, at),
+    };
+    let end = put_numbers(number, tried, buffer, at);
+    match found {
+        Finding::Stays => fitting::put(b"stays\n", buffer, end),
+        Finding::Moves => filling::put(
+            b"moves to %0\n",
+            &[filling::letter(tried.falls_in)],
+            buffer,
+            end,
+        ),
     }
 }
 
+#[tactic(auto, unfolding(crate::specs::Depths::try_line))]
 fn put_try(number: u64, tried: Try, knots: u8, buffer: &mut [u8], at: usize) -> usize
     requires { at + 800 ≤ length buffer.old }
     ensures { Put buffer.old at (try_line number tried knots) buffer.new result × (result ≤ at + 800) }
@@ -130,20 +131,21 @@ fn put_try(number: u64, tried: Try, knots: u8, buffer: &mut [u8], at: usize) -> 
 }
 
 // Each try, in their order.
+#[tactic(auto, unfolding(crate::specs::Depths::tries_text))]
 fn put_tries(worksheet: Worksheet, knots: u8, buffer: &mut [u8], at: usize) -> usize
     requires { at + 2400 ≤ length buffer.old }
     ensures { Put buffer.old at (tries_text worksheet knots) buffer.new result × (result ≤ at + 2400) }
 {
+    let tries = worksheet.tries();
     let mut end = at;
-    let mut number = 0;
-    for tried in worksheet.tries() {
-        number += 1;
-        end = put_try(number, *tried, knots, buffer, end);
+    for (i, tried) in tries.iter().enumerate() {
+        end = put_try(i as u64 + 1, *tried, knots, buffer, end);
     }
     end
 }
 
 // The allowances, and the head of the tries.
+#[tactic(auto, unfolding(crate::specs::Depths::depth_head))]
 fn put_head(stretch: Stretch, buffer: &mut [u8], at: usize) -> usize
     requires { at + 1500 ≤ length buffer.old }
     ensures { Put buffer.old at (depth_head stretch) buffer.new result × (result ≤ at + 1500) }

@@ -10,6 +10,7 @@ use datum::Level;
 use depth::Column;
 
 // Puts a text whose blanks take words from a table.
+#[tactic(auto, unfolding(blanks::specs::Blanks::filled))]
 pub fn put_worded(
     text: &[u8],
     figures: &[Figure],
@@ -32,6 +33,7 @@ pub fn put(text: &[u8], figures: &[Figure], buffer: &mut [u8], at: usize) -> usi
 }
 
 // The line of a row's figure.
+#[tactic(auto, unfolding(typed::specs::Lines::line_text))]
 pub fn put_line(row: usize, figure: u32, buffer: &mut [u8], at: usize) -> usize
     requires { (row < 28) × (at + 80 ≤ length buffer.old) }
     ensures { Put buffer.old at (line_text row figure) buffer.new result × (result ≤ at + 80) }

@@ -14,6 +14,7 @@ const NAME: usize = 36;
 const SHEET: usize = 28;
 
 // A byte that is not the first of its letter.
+#[tactic(auto, unfolding(crate::specs::Framing::continues))]
 fn continues_letter(byte: u8) -> bool
     ensures { result ≡ continues byte }
 {
@@ -21,13 +22,14 @@ fn continues_letter(byte: u8) -> bool
 }
 
 // The greatest place up to one at which no letter is torn.
+#[tactic(auto, unfolding(crate::specs::Framing::whole_to))]
 fn whole_to(name: &[u8], most: usize) -> usize
     requires { most < length name.now }
     ensures { (result ≡ whole_to name.now most) × (result ≤ most) }
 {
-    for end in (1..=most).rev() {
-        if !continues_letter(name[end]) {
-            return end;
+    for before in (0..most).rev() {
+        if !continues_letter(name[before + 1]) {
+            return before + 1;
         }
     }
     0
@@ -72,6 +74,7 @@ fn put_name(name: &[u8], buffer: &mut [u8], at: usize) -> usize
 }
 
 // Bytes as they are shown.
+#[tactic(auto, unfolding(texts::specs::Messages::shown))]
 fn put_visible(bytes: &[u8], buffer: &mut [u8], at: usize) -> usize
     requires { at + length bytes.now ≤ length buffer.old }
     ensures { Put buffer.old at (map shown bytes.now) buffer.new result × (result ≤ at + length bytes.now) }
@@ -80,6 +83,7 @@ fn put_visible(bytes: &[u8], buffer: &mut [u8], at: usize) -> usize
 }
 
 // A byte of a hexadecimal digit.
+#[tactic(auto, unfolding(crate::specs::Framing::hex_digit))]
 fn hex_digit(digit: u8) -> u8
     requires { digit < 16 }
     ensures { result ≡ hex_digit digit }
@@ -92,6 +96,7 @@ fn hex_digit(digit: u8) -> u8
 }
 
 // The two digits of a byte.
+#[tactic(auto, unfolding(crate::specs::Framing::hex_byte))]
 fn put_byte(byte: u8, buffer: &mut [u8], at: usize) -> usize
     requires { at + 2 ≤ length buffer.old }
     ensures { Put buffer.old at (hex_byte byte) buffer.new result × (result ≤ at + 2) }
@@ -101,6 +106,7 @@ fn put_byte(byte: u8, buffer: &mut [u8], at: usize) -> usize
 }
 
 // The digits of bytes.
+#[tactic(auto, unfolding(crate::specs::Framing::hex_text))]
 fn put_hex(bytes: &[u8], buffer: &mut [u8], at: usize) -> usize
     requires { at + 2 * length bytes.now ≤ length buffer.old }
     ensures { Put buffer.old at (hex_text bytes.now) buffer.new result × (result ≤ at + 2 * length bytes.now) }
@@ -119,12 +125,13 @@ pub fn put_end(bytes: &[u8], buffer: &mut [u8], at: usize) -> usize
 {
     let line = put_signature(buffer, at);
     let hex = fitting::put(b"bytes ", buffer, line);
-    let shown = bytes.len().min(SHEET);
+    let shown = SHEET.min(bytes.len());
     let last = put_hex(&bytes[..shown], buffer, hex);
     fitting::put(b"\n\x0c", buffer, last)
 }
 
 // An empty line, and the line for name, date and signature.
+#[tactic(auto, unfolding(crate::specs::Framing::signature_text))]
 pub fn put_signature(buffer: &mut [u8], at: usize) -> usize
     requires { at + 74 ≤ length buffer.old }
     ensures { Put buffer.old at signature_text buffer.new result × (result ≤ at + 74) }

@@ -8,6 +8,7 @@ use blanks::Figure;
 use lines::fitting;
 
 // A line of an item, behind its first 27 bytes.
+#[tactic(auto, unfolding(crate::specs::Items::item_line))]
 pub fn put_item(
     front: &[u8],
     words: [u8; 24],

@@ -66,6 +66,7 @@ fn put_steps(
 }
 
 // The level off the record.
+#[tactic(auto, unfolding(crate::specs::Levels::record_part))]
 fn put_record(steps: LevelSteps, buffer: &mut [u8], at: usize) -> usize
     requires { at + 1040 ≤ length buffer.old }
     ensures { Put buffer.old at (record_part steps) buffer.new result × (result ≤ at + 1040) }

@@ -71,6 +71,7 @@ pub fn put_page(
 }
 
 // Puts the head of the route's first page likewise.
+#[tactic(auto, unfolding(lines::specs::Lines::place_within, crate::specs::Routes::route_head, lines::specs::Lines::buffer_within))]
 pub fn put_route_head(buffer: &mut [u8], at: usize) -> usize
     ensures { (result ≡ place_within page_bytes (route_head 1) at buffer.old) × (buffer.new ≡ buffer_within page_bytes (route_head 1) at buffer.old) }
 {
@@ -81,6 +82,7 @@ pub fn put_route_head(buffer: &mut [u8], at: usize) -> usize
 }
 
 // Puts the line of a stretch likewise, behind the head of a new page where one begins.
+#[tactic(auto, unfolding(lines::specs::Lines::place_within, crate::specs::Routes::stretch_text, lines::specs::Lines::buffer_within))]
 pub fn put_stretch(
     index: u64,
     answer: Result<Figures, Reason>,
@@ -96,6 +98,7 @@ pub fn put_stretch(
 }
 
 // Puts the end of the route likewise.
+#[tactic(auto, unfolding(lines::specs::Lines::place_within, crate::specs::Routes::foot_text, lines::specs::Lines::buffer_within))]
 pub fn put_route_foot(
     totals: Totals,
     greatest: Greatest,

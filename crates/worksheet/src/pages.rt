@@ -37,6 +37,7 @@ fn lanes_for(sheet: Sheet) -> Lanes
 }
 
 // The level and the lanes.
+#[tactic(auto, unfolding(crate::specs::Pages::front_text))]
 fn put_front(sheet: Sheet, steps: LevelSteps, buffer: &mut [u8], at: usize) -> usize
     requires { at + 2040 ≤ length buffer.old }
     ensures { Put buffer.old at (front_text sheet steps) buffer.new result × (result ≤ at + 2040) }
@@ -83,6 +84,7 @@ fn section_for(
 }
 
 // The width, the bend and the speed of a sheet that has a depth.
+#[tactic(auto, unfolding(crate::specs::Pages::sized_text))]
 fn put_sized(
     sheet: Sheet,
     level: Level,
@@ -169,6 +171,7 @@ fn put_answered(
 }
 
 // 4, 5 and 6.
+#[tactic(auto, unfolding(crate::specs::Pages::no_level_parts))]
 fn put_no_level(
     sheet: Sheet,
     steps: LevelSteps,
@@ -184,6 +187,7 @@ fn put_no_level(
 }
 
 // 7 and 8.
+#[tactic(auto, unfolding(crate::specs::Pages::no_width_parts))]
 fn put_no_width(
     sheet: Sheet,
     steps: LevelSteps,

@@ -14,6 +14,7 @@ use speed::{Section, SpeedFault};
 use width::WidthFault;
 
 // The row of a field, by how many stand before it.
+#[tactic(auto, unfolding(crate::specs::Refusals::row_of_field))]
 fn row_of_field(field: u8) -> usize
     ensures { (result ≡ row_of_field field) × (result < 28) }
 {
@@ -25,6 +26,7 @@ fn row_of_field(field: u8) -> usize
 }
 
 // The least and the greatest figure of its row; a level's are those that are given.
+#[tactic(auto, unfolding(crate::specs::Refusals::values_of_field))]
 fn values_of_field(field: u8) -> Range
     ensures { result ≡ values_of_field field }
 {
@@ -38,6 +40,7 @@ fn values_of_field(field: u8) -> Range
 }
 
 // What a field may hold.
+#[tactic(auto, unfolding(crate::specs::Refusals::may_hold))]
 fn put_may_hold(field: u8, buffer: &mut [u8], at: usize) -> usize
     requires { at + 200 ≤ length buffer.old }
     ensures { Put buffer.old at (may_hold field) buffer.new result × (result ≤ at + 200) }
@@ -51,6 +54,7 @@ fn put_may_hold(field: u8, buffer: &mut [u8], at: usize) -> usize
 }
 
 // What else makes a field bad.
+#[tactic(auto, using(lines::proofs::putting::Placing::put_none), unfolding(crate::specs::Refusals::field_note))]
 fn put_field_note(field: u8, buffer: &mut [u8], at: usize) -> usize
     requires { at + 50 ≤ length buffer.old }
     ensures { Put buffer.old at (field_note field) buffer.new result × (result ≤ at + 50) }
@@ -62,6 +66,7 @@ fn put_field_note(field: u8, buffer: &mut [u8], at: usize) -> usize
     }
 }
 
+#[tactic(auto, unfolding(crate::specs::Refusals::bad_field))]
 fn put_bad_field(field: u8, buffer: &mut [u8], at: usize) -> usize
     requires { at + 760 ≤ length buffer.old }
     ensures { Put buffer.old at (bad_field field) buffer.new result × (result ≤ at + 760) }
@@ -98,6 +103,7 @@ pub fn put_no_sheet(fault: ReadFault, bytes: usize, buffer: &mut [u8], at: usize
 }
 
 // 18.
+#[tactic(auto, unfolding(crate::specs::Refusals::no_ship_text))]
 pub fn put_no_ship(ship: u16, beam: u16, buffer: &mut [u8], at: usize) -> usize
     requires { at + 1400 ≤ length buffer.old }
     ensures { Put buffer.old at (no_ship_text ship beam) buffer.new result × (result ≤ at + 1400) }
@@ -176,6 +182,7 @@ pub fn put_no_width(
 }
 
 // 14: over 120, or without end.
+#[tactic(auto, unfolding(crate::specs::Refusals::silt_text))]
 fn put_silt(last: Try, filling: u64, buffer: &mut [u8], at: usize) -> usize
     requires { at + 1300 ≤ length buffer.old }
     ensures { Put buffer.old at (silt_text last filling) buffer.new result × (result ≤ at + 1300) }
@@ -229,6 +236,7 @@ fn put_no_cut(
     }
 }
 
+#[tactic(auto, unfolding(crate::specs::Refusals::no_depth_text))]
 pub fn put_no_depth(
     fault: DepthFault,
     stretch: depth::Stretch,

@@ -12,6 +12,7 @@ use lines::fitting;
 const LINES: u64 = 50;
 
 // The head of a page.
+#[tactic(auto, unfolding(crate::specs::Routes::route_head))]
 pub fn put_head(page: u64, buffer: &mut [u8], at: usize) -> usize
     requires { at + 1400 ≤ length buffer.old }
     ensures { Put buffer.old at (route_head page) buffer.new result × (result ≤ at + 1400) }
@@ -25,6 +26,7 @@ pub fn put_head(page: u64, buffer: &mut [u8], at: usize) -> usize
 }
 
 // A new page after every fiftieth line.
+#[tactic(auto, unfolding(crate::specs::Routes::new_page))]
 fn put_new_page(index: u64, buffer: &mut [u8], at: usize) -> usize
     requires { at + 1401 ≤ length buffer.old }
     ensures { Put buffer.old at (new_page index) buffer.new result × (result ≤ at + 1401) }
@@ -40,6 +42,7 @@ fn put_new_page(index: u64, buffer: &mut [u8], at: usize) -> usize
 }
 
 // The line of a stretch that is answered.
+#[tactic(auto, unfolding(crate::specs::Routes::answered_line))]
 fn put_answered(index: u64, figures: Figures, buffer: &mut [u8], at: usize) -> usize
     requires { at + 450 ≤ length buffer.old }
     ensures { Put buffer.old at (answered_line index figures) buffer.new result × (result ≤ at + 450) }
@@ -89,6 +92,7 @@ fn put_by(index: u64, answer: Result<Figures, Reason>, buffer: &mut [u8], at: us
 }
 
 // The same, behind the head of a new page where one begins.
+#[tactic(auto, unfolding(crate::specs::Routes::stretch_text))]
 pub fn put_line(index: u64, answer: Result<Figures, Reason>, buffer: &mut [u8], at: usize) -> usize
     requires { at + 1851 ≤ length buffer.old }
     ensures { Put buffer.old at (stretch_text index answer) buffer.new result × (result ≤ at + 1851) }
@@ -98,6 +102,7 @@ pub fn put_line(index: u64, answer: Result<Figures, Reason>, buffer: &mut [u8], 
 }
 
 // A greatest figure, where a stretch is answered.
+#[tactic(auto, unfolding(crate::specs::Routes::greatest_figure))]
 fn greatest_figure(answered: u64, figure: u32) -> Figure
     ensures { result ≡ greatest_figure answered figure }
 {
@@ -108,6 +113,7 @@ fn greatest_figure(answered: u64, figure: u32) -> Figure
 }
 
 // The end of the route.
+#[tactic(auto, unfolding(crate::specs::Routes::foot_text))]
 pub fn put_foot(
     totals: Totals,
     greatest: Greatest,
@@ -152,6 +158,7 @@ pub fn put_foot(
 }
 
 // With one more stretch that is answered.
+#[tactic(auto, unfolding(crate::specs::Routes::with_figures))]
 pub fn greater(greatest: Greatest, figures: Figures) -> Greatest
     ensures { result ≡ with_figures greatest figures }
 {

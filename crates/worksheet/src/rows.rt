@@ -15,6 +15,7 @@ const SPACES: [u8; COLUMN] = [b' '; COLUMN];
 const LINES: usize = 14;
 
 // The line of a row, without a newline.
+#[tactic(auto, unfolding(crate::specs::Rows::row_text))]
 fn put_row(figures: [u32; sheet::COUNT], i: usize, buffer: &mut [u8], at: usize) -> usize
     requires { (i < 28) × (at + 80 ≤ length buffer.old) }
     ensures { Put buffer.old at (row_text figures i) buffer.new result × (result ≤ at + 80) }
@@ -23,6 +24,7 @@ fn put_row(figures: [u32; sheet::COUNT], i: usize, buffer: &mut [u8], at: usize)
 }
 
 // A row, and the fourteenth behind it.
+#[tactic(auto, unfolding(crate::specs::Rows::pair_text))]
 fn put_pair(figures: [u32; sheet::COUNT], i: usize, buffer: &mut [u8], at: usize) -> usize
     requires { (i < 14) × (at + 200 ≤ length buffer.old) }
     ensures { Put buffer.old at (pair_text figures i) buffer.new result × (result ≤ at + 200) }
@@ -43,6 +45,7 @@ pub fn put_rows(figures: [u32; sheet::COUNT], buffer: &mut [u8], at: usize) -> u
     fitting::put(b"\n", buffer, last)
 }
 
+#[tactic(auto, unfolding(crate::specs::Rows::pairs_text))]
 fn put_pairs(figures: [u32; sheet::COUNT], buffer: &mut [u8], at: usize) -> usize
     requires { at + 2899 ≤ length buffer.old }
     ensures { Put buffer.old at (pairs_text figures 0 14) buffer.new result × (result ≤ at + 2899) }

@@ -29,6 +29,7 @@ fn put_fastest(fastest: Option<u64>, knots: u8, buffer: &mut [u8], at: usize) ->
 }
 
 // V', V'', h and the joined speed.
+#[tactic(auto, unfolding(crate::specs::Speeds::parts_text))]
 fn put_parts(slope: u8, cut: u16, parts: SpeedParts, buffer: &mut [u8], at: usize) -> usize
     requires { at + 1200 ≤ length buffer.old }
     ensures { Put buffer.old at (parts_text slope cut parts) buffer.new result × (result ≤ at + 1200) }
@@ -49,6 +50,7 @@ fn put_parts(slope: u8, cut: u16, parts: SpeedParts, buffer: &mut [u8], at: usiz
 }
 
 // The part of the speed; none for a slope of 0.
+#[tactic(auto, unfolding(crate::specs::Speeds::speed_part))]
 pub fn put_speed(section: Section, knots: u8, buffer: &mut [u8], at: usize) -> usize
     requires { at + 2000 ≤ length buffer.old }
     ensures { Put buffer.old at (speed_part section knots) buffer.new result × (result ≤ at + 2000) }

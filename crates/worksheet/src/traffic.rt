@@ -9,6 +9,7 @@ use lanes::Sides;
 use lines::fitting;
 
 // Which side is greater, and the lanes that it comes to.
+#[tactic(auto, unfolding(crate::specs::Traffic::greater_text))]
 fn put_greater(sides: Sides, buffer: &mut [u8], at: usize) -> usize
     requires { at + 40 ≤ length buffer.old }
     ensures { Put buffer.old at (greater_text sides) buffer.new result × (result ≤ at + 40) }
@@ -23,6 +24,7 @@ fn put_greater(sides: Sides, buffer: &mut [u8], at: usize) -> usize
 }
 
 // Both sides of the rule.
+#[tactic(auto, unfolding(crate::specs::Traffic::traffic_text))]
 fn put_sides(sides: Sides, buffer: &mut [u8], at: usize) -> usize
     requires { at + 1000 ≤ length buffer.old }
     ensures { Put buffer.old at (traffic_text sides) buffer.new result × (result ≤ at + 1000) }
@@ -37,6 +39,7 @@ fn put_sides(sides: Sides, buffer: &mut [u8], at: usize) -> usize
 }
 
 // The part of the lanes.
+#[tactic(auto, unfolding(crate::specs::Traffic::lanes_part))]
 pub fn put_lanes(
     named: u8,
     channel: u32,

@@ -32,6 +32,7 @@ fn water_word(water: Water) -> Figure
 }
 
 // The beam, the speed and the water, and the head of the items.
+#[tactic(auto, unfolding(crate::specs::Widths::width_head))]
 fn put_head(beam: u16, entries: Entries, buffer: &mut [u8], at: usize) -> usize
     requires { at + 1600 ≤ length buffer.old }
     ensures { Put buffer.old at (width_head beam entries) buffer.new result × (result ≤ at + 1600) }
@@ -50,6 +51,7 @@ fn put_head(beam: u16, entries: Entries, buffer: &mut [u8], at: usize) -> usize
 }
 
 // The items of the ship and the weather.
+#[tactic(auto, unfolding(crate::specs::Widths::ship_items))]
 fn put_ship_items(
     stretch: Stretch,
     items: Items,
@@ -105,6 +107,7 @@ fn put_ship_items(
 }
 
 // The items of the aids, the bed, the depth and the cargo.
+#[tactic(auto, unfolding(crate::specs::Widths::bed_items))]
 fn put_bed_items(
     stretch: Stretch,
     items: Items,
@@ -152,6 +155,7 @@ fn put_bed_items(
 }
 
 // The tenths of the nine items, once or twice.
+#[tactic(auto, unfolding(crate::specs::Widths::nine_tenths))]
 fn nine_tenths(items: Items, lanes: Lanes) -> u32
     ensures { result ≡ nine_tenths items lanes }
 {
@@ -159,6 +163,7 @@ fn nine_tenths(items: Items, lanes: Lanes) -> u32
 }
 
 // The nine items once or twice, and the banks.
+#[tactic(auto, unfolding(crate::specs::Widths::lane_items))]
 fn put_lane_items(stretch: Stretch, items: Items, buffer: &mut [u8], at: usize) -> usize
     requires { at + 400 ≤ length buffer.old }
     ensures { Put buffer.old at (lane_items stretch items) buffer.new result × (result ≤ at + 400) }
@@ -201,6 +206,7 @@ fn put_passing_items(
     }
 }
 
+#[tactic(auto, unfolding(crate::specs::Widths::between_items))]
 fn put_between(
     stretch: Stretch,
     items: Items,
@@ -231,6 +237,7 @@ fn put_between(
 }
 
 // All tenths, and the width that they come to.
+#[tactic(auto, unfolding(crate::specs::Widths::width_sum))]
 fn put_sum(stretch: Stretch, entries: Entries, items: Items, buffer: &mut [u8], at: usize) -> usize
     requires { at + 800 ≤ length buffer.old }
     ensures { Put buffer.old at (width_sum stretch entries items) buffer.new result × (result ≤ at + 800) }
@@ -249,6 +256,7 @@ fn put_sum(stretch: Stretch, entries: Entries, items: Items, buffer: &mut [u8], 
 }
 
 // The items of a width, in their order.
+#[tactic(auto, unfolding(crate::specs::Widths::items_text))]
 fn put_items(
     stretch: Stretch,
     entries: Entries,
@@ -270,6 +278,7 @@ fn put_items(
 }
 
 // The part of the width.
+#[tactic(auto, unfolding(crate::specs::Widths::width_part))]
 pub fn put_width(
     stretch: Stretch,
     entries: Entries,

@@ -90,6 +90,7 @@ const ONCE: [u8; 24] = *b"once                    ";
 
 const TWICE: [u8; 24] = *b"twice                   ";
 
+#[tactic(auto, unfolding(crate::specs::Words::handling_words))]
 pub fn handling_words(handling: u8) -> [u8; 24]
     ensures { result ≡ handling_words handling }
 {
@@ -100,6 +101,7 @@ pub fn handling_words(handling: u8) -> [u8; 24]
     }
 }
 
+#[tactic(auto, unfolding(crate::specs::Words::wind_words))]
 pub fn wind_words(wind: u8) -> [u8; 24]
     ensures { result ≡ wind_words wind }
 {
@@ -110,6 +112,7 @@ pub fn wind_words(wind: u8) -> [u8; 24]
     }
 }
 
+#[tactic(auto, unfolding(crate::specs::Words::cross_words))]
 pub fn cross_words(cross: CrossCurrent) -> [u8; 24]
     ensures { result ≡ cross_words cross }
 {
@@ -121,6 +124,7 @@ pub fn cross_words(cross: CrossCurrent) -> [u8; 24]
     }
 }
 
+#[tactic(auto, unfolding(crate::specs::Words::along_words))]
 pub fn along_words(along: AlongCurrent) -> [u8; 24]
     ensures { result ≡ along_words along }
 {
@@ -131,6 +135,7 @@ pub fn along_words(along: AlongCurrent) -> [u8; 24]
     }
 }
 
+#[tactic(auto, unfolding(crate::specs::Words::wave_words))]
 pub fn wave_words(wave: u16) -> [u8; 24]
     ensures { result ≡ wave_words wave }
 {
@@ -141,6 +146,7 @@ pub fn wave_words(wave: u16) -> [u8; 24]
     }
 }
 
+#[tactic(auto, unfolding(crate::specs::Words::aids_words))]
 pub fn aids_words(aids: u8) -> [u8; 24]
     ensures { result ≡ aids_words aids }
 {
@@ -152,6 +158,7 @@ pub fn aids_words(aids: u8) -> [u8; 24]
     }
 }
 
+#[tactic(auto, unfolding(crate::specs::Words::bed_words))]
 pub fn bed_words(draft: u16, sailing: BelowLevel, bottom: u8) -> [u8; 24]
     ensures { result ≡ bed_words draft sailing bottom }
 {
@@ -165,6 +172,7 @@ pub fn bed_words(draft: u16, sailing: BelowLevel, bottom: u8) -> [u8; 24]
     }
 }
 
+#[tactic(auto, unfolding(crate::specs::Words::depth_words))]
 pub fn depth_words(water: Water, draft: u16, sailing: BelowLevel) -> [u8; 24]
     ensures { result ≡ depth_words water draft sailing }
 {
@@ -181,6 +189,7 @@ pub fn depth_words(water: Water, draft: u16, sailing: BelowLevel) -> [u8; 24]
     }
 }
 
+#[tactic(auto, unfolding(crate::specs::Words::cargo_words))]
 pub fn cargo_words(cargo: u8) -> [u8; 24]
     ensures { result ≡ cargo_words cargo }
 {
@@ -191,6 +200,7 @@ pub fn cargo_words(cargo: u8) -> [u8; 24]
     }
 }
 
+#[tactic(auto, unfolding(crate::specs::Words::banks_words))]
 pub fn banks_words(left: u8, right: u8) -> [u8; 24]
     ensures { result ≡ banks_words left right }
 {
@@ -211,6 +221,7 @@ pub fn passing_words(band: SpeedBand) -> [u8; 24]
     }
 }
 
+#[tactic(auto, unfolding(crate::specs::Words::traffic_words))]
 pub fn traffic_words(ships: u16) -> [u8; 24]
     ensures { result ≡ traffic_words ships }
 {

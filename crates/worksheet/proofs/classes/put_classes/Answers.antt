@@ -14,9 +14,9 @@ pub returns : goal.returns
 unfolding classes_part
 returns c =
     let held : SFits w32 c.args.figures.width = record { sfits = c.struct_told-1.given.1.1.1.1.1.0.1 } in
-    let ship = rw (c.class_figures.ensures, c.wide.ensures, c.ship_limits.ensures) at c.put-ship.ensures.0 in
-    let across = rw (c.class_figures-2.ensures, c.wide-2.ensures, c.width_limits.ensures, c.unsigned-width.ensures, to_z-of_z held) at c.put-across.ensures.0 in
-    let deep = rw (c.class_figures-3.ensures, c.short.ensures, c.depth_limits.ensures) at c.put.ensures.0 in
+    let ship = rw (c.class_figures.ensures, c.ship_limits.ensures) at c.put-ship.ensures.0 in
+    let across = rw (c.class_figures-2.ensures, c.width_limits-limits.ensures, c.unsigned-width.ensures, to_z-of_z held) at c.put-across.ensures.0 in
+    let deep = rw (c.class_figures-3.ensures, c.from.ensures, c.depth_limits-limits.ensures) at c.put.ensures.0 in
     let first = c.put-ship.ensures.1 in
     let second = c.put-across.ensures.1 in
     let room = c.requires in

@@ -2,11 +2,7 @@
 use native.Mathlib.Omega.{arith}
 use Rattle.lines.proofs.putting.Placing.{put_on}
 use Rattle.worksheet.specs.Depths.{depth_part}
-use Rattle.worksheet.proofs.Tries.{three_at_most}
 use Rattle.worksheet.proofs.depths.put_depth.Goals as goal
-
-pub put_tries-tries-requires : goal.put_tries-tries-requires
-put_tries-tries-requires c = (rw c.fill_worksheet.ensures (three_at_most c.args.stretch), omega (arith, c.requires, c.put_head-head.ensures.1))
 
 pub returns : goal.returns
 unfolding depth_part

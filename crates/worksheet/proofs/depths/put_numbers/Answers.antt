@@ -7,6 +7,6 @@ use Rattle.worksheet.proofs.depths.put_numbers.Goals as goal
 pub returns : goal.returns
 unfolding try_numbers
 returns c =
-    let front = rw (c.four.ensures, c.letter.ensures, c.short.ensures) at c.put-front.ensures.0 in
-    let back = rw (c.three.ensures, c.letter-2.ensures) at c.put.ensures.0 in
+    let front = rw (c.letter.ensures, c.from.ensures) at c.put-front.ensures.0 in
+    let back = rw c.letter-2.ensures at c.put.ensures.0 in
     (put_on front back (omega (arith, c.requires, c.put-front.ensures.1)), omega (arith, c.put-front.ensures.1, c.put.ensures.1))

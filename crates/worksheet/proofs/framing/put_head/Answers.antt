@@ -7,5 +7,5 @@ use Rattle.worksheet.proofs.framing.put_head.Goals as goal
 pub returns : goal.returns
 unfolding head_text
 returns c =
-    let title = rw c.one.ensures at c.put-title.ensures.0 in
-    (put_on (put_on title c.put_name-named.ensures.0 (omega arith)) c.put_bytes.ensures.0 (omega arith), omega arith)
+    let title = c.put-title.ensures.0 in
+    (put_on (put_on title c.put_name-named.ensures.0 (omega arith)) c.put.ensures.0 (omega arith), omega arith)

@@ -1,23 +1,22 @@
--- `worksheet::framing::put_hex` meets its contract. The loop's invariant: the digits of the bytes passed stand. The measure is the bytes that are left.
+-- `worksheet::framing::put_hex` meets its contract: the digits of one byte more stand behind those of the bytes passed.
 use mathlib.Core.Path.{◌≡◌, refl}
 use native.Mathlib.Omega.{arith}
+use lib.ListN.{length}
+use lib.Seq.{take_all}
 use Rattle.worksheet.proofs.framing.Hex.{no_digits, one_more}
 use Rattle.worksheet.proofs.framing.put_hex.Goals as goal
 
-pub loop-i-init : goal.loop-i-init
-loop-i-init c = (omega arith, refl, omega arith, no_digits c.args.bytes.now)
+pub loop-byte-init : goal.loop-byte-init
+loop-byte-init c = (refl, omega arith, no_digits c.args.bytes.now)
 
-pub loop-i-preserved : goal.loop-i-preserved
-loop-i-preserved c =
-    let l = c.loop-i in
-    let bytes = c.args.bytes.now in
-    (omega arith, omega arith, omega arith, one_more bytes l.i (omega arith) l.invariant.3 c.put_byte-end.ensures.0 (omega arith))
+pub loop-byte-preserved : goal.loop-byte-preserved
+loop-byte-preserved c =
+    let l = c.loop-byte in
+    (omega arith, omega arith, one_more c.args.bytes.now l.byte-index (omega arith) l.invariant.2 c.put_byte-end.ensures.0 (omega arith))
 
 pub returns : goal.returns
 returns c =
-    let l = c.loop-i in
-    let e : l.i ≡ c.args.count = omega arith in
-    (rw (← e) l.invariant.3, omega arith)
-
-pub shape_of-buffer : goal.shape_of-buffer
-shape_of-buffer c = c.loop-i.invariant.1
+    let l = c.loop-byte in
+    let bytes = c.args.bytes.now in
+    let e : l.byte-index ≡ length bytes = omega arith in
+    (rw (take_all (length bytes) bytes (omega arith)) at (rw e at l.invariant.2), omega arith)

@@ -1,5 +1,5 @@
 -- `worksheet::framing::put_name` meets its contract: nothing, or spaces and the bytes that are shown.
-use mathlib.Core.Path.{sym}
+use mathlib.Core.Path.{◌∙◌, sym}
 use native.Mathlib.Omega.{arith}
 use borrow.Author.Tests.{eq-eqb, ne_eqb}
 use lib.ListN.{take, length-map}
@@ -9,9 +9,9 @@ use Rattle.lines.proofs.putting.Placing.{put_none, put_on}
 use Rattle.worksheet.specs.Framing.{name_end, name_text}
 use Rattle.worksheet.proofs.framing.put_name.Goals as goal
 
-pub returns-then-name-eq0 : goal.returns-then-name-eq0
+pub returns-then-is_empty : goal.returns-then-is_empty
 unfolding name_text
-returns-then-name-eq0 c = rw (eq-eqb _ _ c.if-name-eq0.true) (put_none, omega arith)
+returns-then-is_empty c = rw (sym c.is_empty.ensures ∙ c.if-is_empty.true) (put_none, omega arith)
 
 pub slice_bounds-put_visible-end : goal.slice_bounds-put_visible-end
 slice_bounds-put_visible-end c = sym (length-take-le c.name_end-end.result c.args.name.now c.name_end-end.ensures.1.1)
@@ -25,4 +25,4 @@ returns c =
     let visible = rw c.name_end-end.ensures.0 at c.put_visible.ensures.0 in
     let name = c.args.name.now in
     let short = length-take-le (name_end name) name (omega arith) in
-    rw (ne_eqb _ _ c.if-name-eq0.false) (put_on c.put_bytes-from.ensures.0 visible (omega arith), omega (arith, short, length-map (take (name_end name) name) shown))
+    rw (sym c.is_empty.ensures ∙ c.if-is_empty.false) (put_on c.put-from.ensures.0 visible (omega arith), omega (arith, short, length-map (take (name_end name) name) shown))

@@ -7,5 +7,5 @@ use Rattle.worksheet.proofs.items.put_item.Goals as goal
 pub returns : goal.returns
 unfolding item_line
 returns c =
-    let figures = rw (c.four.ensures, c.wide.ensures) at c.put_worded.ensures.0 in
-    (put_on c.put_bytes-middle.ensures.0 figures (omega arith), omega arith)
+    let figures = rw c.from.ensures at c.put_worded.ensures.0 in
+    (put_on c.put-middle.ensures.0 figures (omega arith), omega arith)

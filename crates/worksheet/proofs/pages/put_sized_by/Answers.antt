@@ -3,11 +3,8 @@ use native.Mathlib.Omega.{arith}
 use Rattle.lines.proofs.putting.Placing.{put_none}
 use Rattle.worksheet.proofs.pages.put_sized_by.Goals as goal
 
-pub returns-in-Err-NoWidthEntry : goal.returns-in-Err-NoWidthEntry
-returns-in-Err-NoWidthEntry c = rw c.in-Err-NoWidthEntry.is (put_none, omega arith)
+pub returns-in_default : goal.returns-in_default
+returns-in_default c = rw (c.in_default.is-0, c.in_default.is-1) (put_none, omega arith)
 
-pub returns-in-Err : goal.returns-in-Err
-returns-in-Err c = rw (c.in-Ok.is, c.in-Err.is) (put_none, omega arith)
-
-pub returns-in-Ok : goal.returns-in-Ok
-returns-in-Ok c = rw (c.in-Ok.is, c.in-Ok.is) c.put_sized.ensures
+pub returns-in_default-2 : goal.returns-in_default-2
+returns-in_default-2 c = rw c.in_default.is-0 (put_none, omega arith)

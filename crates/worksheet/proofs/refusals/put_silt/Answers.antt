@@ -6,8 +6,8 @@ use Rattle.worksheet.proofs.refusals.put_silt.Goals as goal
 
 pub returns-then-last-lt-ENDLESS : goal.returns-then-last-lt-ENDLESS
 unfolding silt_text
-returns-then-last-lt-ENDLESS c = rw (lt-ltb _ _ c.if-last-lt-ENDLESS.true) (rw (c.two.ensures, c.letter.ensures) at c.put.ensures.0, omega (arith, c.put.ensures.1))
+returns-then-last-lt-ENDLESS c = rw (lt-ltb _ _ c.if-last-lt-ENDLESS.true) (rw c.letter.ensures at c.put.ensures.0, omega (arith, c.put.ensures.1))
 
 pub returns : goal.returns
 unfolding silt_text
-returns c = rw (le-ltb _ _ c.if-last-lt-ENDLESS.false) (rw c.one.ensures at c.put-2.ensures.0, omega (arith, c.put-2.ensures.1))
+returns c = rw (le-ltb _ _ c.if-last-lt-ENDLESS.false) (c.put-2.ensures.0, omega (arith, c.put-2.ensures.1))

@@ -1,19 +1,29 @@
 -- `worksheet::routes::greater` meets its contract: the greater cut and the greater width.
-use borrow.Author.Tests.{lt-ltb, le-ltb}
-use mir.Val.{SFits}
+use mathlib.Core.Path.{◌≡◌, refl}
+use Prim.Native.Nat.{ℕ, max, ◌<◌}
+use mathlib.Core.Bool.{Bool, true, false}
+use native.Mathlib.Omega.{arith}
+use borrow.Author.Rules.{rules}
+use lib.Dec.{ltb}
+use Rattle.std.proofs.Common.{ltb-true, ltb-false}
 use mir.Facts.{to_z-of_z}
 use mir.Syntax.{w32}
+use mir.Val.{to_z, of_z}
+use Rattle.laws.specs.Choice.{ifᵇ◌then◌else◌}
 use Rattle.worksheet.specs.Routes.{greater_of, with_figures}
 use Rattle.worksheet.proofs.routes.greater.Goals as goal
 
-pub returns-then-greatest-cut : goal.returns-then-greatest-cut
-unfolding with_figures greater_of
-returns-then-greatest-cut c =
-    let width : SFits w32 c.args.figures.width = record { sfits = c.struct_told-1.given.1.1.1.1.1.0.1 } in
-    rw (c.greater_of-width.ensures, c.unsigned.ensures, to_z-of_z width, lt-ltb _ _ c.if-greatest-cut.true)
+greater_is : (one other : ℕ) → max one other ≡ greater_of one other
+unfolding greater_of
+greater_is one other = go (ltb one other) refl
+  where
+    go : (b : Bool) → ltb one other ≡ b → max one other ≡ (ifᵇ b then other else one)
+    go true e = omega (arith, ltb-true one other e)
+    go false e = omega (arith, ltb-false one other e)
 
 pub returns : goal.returns
-unfolding with_figures greater_of
+unfolding with_figures
 returns c =
-    let width : SFits w32 c.args.figures.width = record { sfits = c.struct_told-1.given.1.1.1.1.1.0.1 } in
-    rw (c.greater_of-width.ensures, c.unsigned.ensures, to_z-of_z width, le-ltb _ _ c.if-greatest-cut.false)
+    let f = c.args.figures in
+    let width : to_z w32 (of_z w32 f.width) ≡ f.width = to_z-of_z {w = w32} (search rules) in
+    rw (c.max.ensures, greater_is, c.max-2.ensures, greater_is, c.unsigned.ensures, width)

@@ -7,9 +7,9 @@ use Rattle.worksheet.proofs.routes.put_foot.Goals as goal
 pub returns : goal.returns
 unfolding foot_text
 returns c =
-    let sheets = rw (c.three.ensures, c.small.ensures) at c.put-sheets.ensures.0 in
-    let most = rw (c.two.ensures, c.greatest_figure.ensures, c.greatest_figure-2.ensures) at c.put-most.ensures.0 in
-    let readings = rw c.three-2.ensures at c.put-record.ensures.0 in
+    let sheets = rw c.from.ensures at c.put-sheets.ensures.0 in
+    let most = rw (c.greatest_figure.ensures, c.from-2.ensures, c.greatest_figure-2.ensures) at c.put-most.ensures.0 in
+    let readings = c.put-record.ensures.0 in
     let enough = c.requires in
     let first = c.put-sheets.ensures.1 in
     let second = c.put-most.ensures.1 in

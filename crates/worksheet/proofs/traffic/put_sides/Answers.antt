@@ -6,4 +6,4 @@ use Rattle.worksheet.proofs.traffic.put_sides.Goals as goal
 
 pub returns : goal.returns
 unfolding traffic_text
-returns c = (put_on (rw c.two.ensures at c.put-both.ensures.0) c.put_greater.ensures.0 (omega (arith, c.requires, c.put-both.ensures.1)), omega (arith, c.put-both.ensures.1, c.put_greater.ensures.1))
+returns c = (put_on c.put-both.ensures.0 c.put_greater.ensures.0 (omega (arith, c.requires, c.put-both.ensures.1)), omega (arith, c.put-both.ensures.1, c.put_greater.ensures.1))

@@ -7,4 +7,4 @@ pub returns : goal.returns
 unfolding width_head
 returns c =
     let put = c.put_worded.ensures in
-    (rw (c.three.ensures, c.short.ensures, c.band_word.ensures, c.water_word.ensures) at put.0, omega (arith, put.1))
+    (rw (c.from.ensures, c.band_word.ensures, c.water_word.ensures) at put.0, omega (arith, put.1))

@@ -7,4 +7,4 @@ pub returns : goal.returns
 unfolding width_sum
 returns c =
     let put = c.put.ensures in
-    (rw (c.three.ensures, c.short.ensures, c.short-2.ensures, c.wide.ensures, c.tenths_of.ensures, c.width_of.ensures.value) at put.0, omega (arith, put.1))
+    (rw (c.from.ensures, c.from-2.ensures, c.from-3.ensures, c.tenths_of.ensures, c.width_of.ensures.value) at put.0, omega (arith, put.1))
