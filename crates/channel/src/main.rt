@@ -8,11 +8,11 @@ ghost use Rattle.channel.specs.Printing.{LinesPrinted, TextPrinted};
 
 use crate::reading::Task;
 use crate::worksheets::Source;
+use datum::Level;
+use gauge::LevelFault;
 use lines::Form;
 use record::Counts;
 use std::env::{Env, FillError};
-use datum::Level;
-use gauge::LevelFault;
 
 mod engines;
 mod input;
@@ -96,13 +96,7 @@ fn print(rt: HostRuntime, form: Form, buffer: &mut [u8]) -> Option<usize>
     let mut table = [0u32; gauge::SLOTS];
     let loaded = levels::load(rt, &mut table);
     match loaded {
-        Some(counts) => print_lines(
-            rt,
-            form,
-            gauge::design_level(&table),
-            counts,
-            buffer,
-        ),
+        Some(counts) => print_lines(rt, form, gauge::design_level(&table), counts, buffer),
         None => None,
     }
 }

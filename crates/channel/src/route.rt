@@ -1,8 +1,8 @@
 // The route: its sheets, how many are answered, and its class.
 ghost use Rattle.std.specs.Prelude.{◌≡◌};
 ghost use Rattle.channel.specs.Route.{no_sheets, with_sheet};
-use design::{Figures, Reason};
 
+use design::{Figures, Reason};
 
 // The route so far.
 #[derive(Clone, Copy)]

@@ -7,10 +7,10 @@ use crate::input::Filled;
 use crate::output::Out;
 use crate::route::Route;
 use crate::{engines, input, output, route};
-use lines::Form;
-use std::io;
 use datum::Level;
 use gauge::LevelFault;
+use lines::Form;
+use std::io;
 
 // A whole number of sheets.
 pub const BLOCK: usize = 65520;

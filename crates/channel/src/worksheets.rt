@@ -11,10 +11,10 @@ ghost use Rattle.channel.specs.Worksheets.{text_by, progress, one_put, all_put, 
 use crate::output::Out;
 use crate::route::Route;
 use crate::{levels, output, route, sheets, typing};
+use design::{Figures, Reason};
 use gauge::LevelSteps;
 use record::Counts;
 use worksheet::{Greatest, Readings, Totals};
-use design::{Figures, Reason};
 
 // What is put of each sheet: its page, or then its line of the route.
 #[derive(Clone, Copy)]
@@ -182,9 +182,8 @@ fn put_typed(
     let mut now = state;
     loop {
         let found = texts::next(text, cursor);
-        let event = found.event;
         let after = found.cursor;
-        if typing::is_over(event) {
+        if found.event.is_none() {
             return now;
         }
         let figures = after.figures;
@@ -304,7 +303,12 @@ fn put_faultless(
 }
 
 // The worksheets of an input over the record of levels.bin.
-pub fn over_record(rt: HostRuntime, source: Source, input: &[u8], buffer: &mut [u8]) -> Option<usize>
+pub fn over_record(
+    rt: HostRuntime,
+    source: Source,
+    input: &[u8],
+    buffer: &mut [u8],
+) -> Option<usize>
     requires { page_bytes ≤ length buffer.old }
     ensures { OverRecord source input.now buffer.old result buffer.new }
 {
