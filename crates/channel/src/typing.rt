@@ -47,6 +47,7 @@ pub fn tell_faults(rt: HostRuntime, text: &[u8]) -> bool
 }
 
 // Puts the bytes of a sheet's figures behind those that wait in the buffer.
+#[tactic(auto, unfolding(crate::specs::Output::with_line))]
 fn put_figures(rt: HostRuntime, figures: [u32; sheet::COUNT], buffer: &mut [u8], out: Out) -> Out
     ensures { lines_at result buffer.new ≡ with_line sheet_bytes (sheet_text figures) (lines_at out buffer.old) }
 {
@@ -90,9 +91,5 @@ pub fn type_text(rt: HostRuntime, text: &[u8], buffer: &mut [u8]) -> Option<usiz
     if tell_faults(rt, text) {
         return None;
     }
-    let out = put_sheets(rt, text, buffer);
-    if out.open {
-        return Some(out.at);
-    }
-    None
+    put_sheets(rt, text, buffer).rest()
 }
