@@ -1,13 +1,13 @@
 -- The sheets of an input: the first and then those behind it; and those of its parts, where the first part is of whole sheets.
 use mathlib.Core.Path.{◌≡◌, refl, sym, ap, ap₂, ◌∙◌}
 use mathlib.Core.Bool.{Bool, true, false}
-use mathlib.Core.List.{List, [], ◌∷◌, ◌++◌, flatten}
+use mathlib.Core.List.{List, [], ◌∷◌, ◌++◌, append-nil, flatten}
 use Prim.Native.Nat.{ℕ, zero, suc, ◌+◌, ◌-◌, ◌*◌, ◌≤◌, ◌<◌, min}
 use native.Mathlib.Omega.{arith}
 use borrow.Author.Tests.{leb-true, leb-false}
 use lib.Dec.{leb}
 use lib.ListN.{length, take, drop, length-append, length-drop, take-append-drop, drop_of_length-le}
-use lib.Seq.{take-append-le, drop-append-le, take_all, drop-drop}
+use lib.Seq.{take-append-le, drop-append-le, take_all}
 use Rattle.laws.specs.Rounding.{up}
 use Rattle.channel.specs.Text.{first_sheets, sheets_of}
 
@@ -25,34 +25,38 @@ pub no_sheet : (input : List ℕ) → length input ≡ 0 → sheets_of input ≡
 unfolding sheets_of first_sheets
 no_sheet input none = let zero-up : up (length input) 28 ≡ 0 = omega arith in counted (up (length input) 28) 0 input zero-up
 
--- the sheet at a place of a block, by its two ends, and then those behind it
-module _ (block : List ℕ) (from to : ℕ) (some : from < length block) (t : to ≡ from + min 28 (length block - from)) where
-  sheet_at : take (to - from) (drop from block) ≡ take 28 (drop from block)
-  sheet_at = go (leb 28 (length block - from)) refl
-    where
-      go : (b : Bool) → leb 28 (length block - from) ≡ b → take (to - from) (drop from block) ≡ take 28 (drop from block)
-      go true whole =
-          let n : to - from ≡ 28 = omega (arith, leb-true 28 (length block - from) whole) in
-          ap (λ (k : ℕ). take k (drop from block)) n
-      go false short =
-          let less : length block - from < 28 = leb-false 28 (length block - from) short in
-          take_all (to - from) (drop from block) (omega (arith, length-drop from block))
-          ∙ sym (take_all 28 (drop from block) (omega (arith, length-drop from block)))
+-- the first sheet of some bytes, as the library cuts it off, and then those behind it
+module _ (rest sheet behind : List ℕ) (parts : rest ≡ sheet ++ behind) (long : length sheet ≡ min 28 (length rest)) (some : 0 < length rest) where
+  lengths : length rest ≡ length sheet + length behind
+  lengths = ap length parts ∙ length-append sheet behind
 
-  behind_it : sheets_of (drop 28 (drop from block)) ≡ sheets_of (drop to block)
-  behind_it = go (leb 28 (length block - from)) refl
+  sheet_is : take 28 rest ≡ sheet
+  sheet_is = go (leb 28 (length rest)) refl
     where
-      go : (b : Bool) → leb 28 (length block - from) ≡ b → sheets_of (drop 28 (drop from block)) ≡ sheets_of (drop to block)
+      go : (b : Bool) → leb 28 (length rest) ≡ b → take 28 rest ≡ sheet
       go true whole =
-          let n : from + 28 ≡ to = omega (arith, leb-true 28 (length block - from) whole) in
-          ap sheets_of (drop-drop 28 from block ∙ ap (λ (k : ℕ). drop k block) n)
+          ap (take 28) parts
+          ∙ take-append-le 28 sheet behind (omega (arith, long, leb-true 28 (length rest) whole))
+          ∙ take_all 28 sheet (omega (arith, long))
       go false short =
-          let less : length block - from < 28 = leb-false 28 (length block - from) short in
-          no_sheet (drop 28 (drop from block)) (omega (arith, length-drop 28 (drop from block), length-drop from block))
-          ∙ sym (no_sheet (drop to block) (omega (arith, length-drop to block)))
+          let none : behind ≡ [] = drop_of_length-le behind {i = 0} (omega (arith, lengths, long, leb-false 28 (length rest) short)) in
+          ap (take 28) (parts ∙ ap (λ (bytes : List ℕ). sheet ++ bytes) none ∙ append-nil sheet) ∙ take_all 28 sheet (omega (arith, long))
 
-  pub next_from : sheets_of (drop from block) ≡ take (to - from) (drop from block) ∷ sheets_of (drop to block)
-  next_from = next_sheet (drop from block) (omega (arith, length-drop from block)) ∙ ap₂ ◌∷◌ (sym sheet_at) behind_it
+  behind_is : sheets_of (drop 28 rest) ≡ sheets_of behind
+  behind_is = go (leb 28 (length rest)) refl
+    where
+      go : (b : Bool) → leb 28 (length rest) ≡ b → sheets_of (drop 28 rest) ≡ sheets_of behind
+      go true whole =
+          ap sheets_of
+          (ap (drop 28) parts
+          ∙ drop-append-le 28 sheet behind (omega (arith, long, leb-true 28 (length rest) whole))
+          ∙ ap (λ (bytes : List ℕ). bytes ++ behind) (drop_of_length-le sheet {i = 28} (omega (arith, long))))
+      go false short =
+          no_sheet (drop 28 rest) (omega (arith, length-drop 28 rest, leb-false 28 (length rest) short))
+          ∙ sym (no_sheet behind (omega (arith, lengths, long, leb-false 28 (length rest) short)))
+
+  pub first_cut : sheets_of rest ≡ sheet ∷ sheets_of behind
+  first_cut = next_sheet rest some ∙ ap₂ ◌∷◌ sheet_is behind_is
 
 -- in two parts, the first of m whole sheets
 pub in_two : (m : ℕ) (first second : List ℕ) → length first ≡ 28 * m → sheets_of (first ++ second) ≡ sheets_of first ++ sheets_of second

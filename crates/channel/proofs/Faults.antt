@@ -1,8 +1,8 @@
 -- A text that is typed, step by step: whether a fault is among what was found, and the bytes of the sheets that were.
 -- What is left after a step is the rest of what was left before it.
-use Rattle.std.specs.Prelude.{Some}
+use Rattle.std.specs.Prelude.{Option, Some, None, is_some}
 use mathlib.Core.Path.{◌≡◌, refl, sym, ap, ◌∙◌}
-use mathlib.Core.Bool.{Bool, true, false}
+use mathlib.Core.Bool.{Bool, true, false, not, ◌||◌}
 use mathlib.Core.List.{List, [], ◌∷◌, ◌++◌, map, map-append}
 use mathlib.Core.Logic.{◌↔◌}
 use Prim.Native.Nat.{ℕ, ◌≤◌, ◌<◌}
@@ -16,7 +16,7 @@ use Rattle.texts.specs.Texts.{happened_in, beginning, next_of, all_of}
 use Rattle.texts.specs.Typed.{Faultless, all_from, fault_in, faults_of, sheet_in, sheets_of, typed_bytes}
 use Rattle.texts.specs.declared.Cursor.{Cursor}
 use Rattle.texts.specs.declared.Event.{Event}
-use Rattle.texts.specs.declared.Event.TheVariants.{Nothing, Sheet, Fault}
+use Rattle.texts.specs.declared.Event.TheVariants.{Sheet, Fault}
 use Rattle.texts.specs.declared.Found.{Found}
 use Rattle.texts.proofs.Promises.{all_from_its_beginning, next_is_first, nothing_is_last}
 use Rattle.channel.specs.Output.{Lines, standing, place_for, with_line, with_lines, written}
@@ -27,15 +27,20 @@ use Rattle.channel.proofs.Lines.{line_put, all_lines, lines_in_two}
 pub zeros_long : (n : ℕ) → n ≡ length (replicate {A = ℕ} n 0)
 zeros_long n = sym (length-replicate {A = ℕ} n 0)
 
-goes_on : (event : Event) → is_over event ≡ false → happened_in event ≡ true
-goes_on Nothing e = never cc
-goes_on Sheet e = refl
-goes_on (Fault fault row) e = refl
+goes_on : (event : Option Event) → is_over event ≡ false → happened_in event ≡ true
+goes_on None e = never cc
+goes_on (Some event) e = refl
 
-is_over_lem : (event : Event) → is_over event ≡ true → happened_in event ≡ false
-is_over_lem Nothing e = refl
-is_over_lem Sheet e = never cc
-is_over_lem (Fault fault row) e = never cc
+is_over_lem : (event : Option Event) → is_over event ≡ true → happened_in event ≡ false
+is_over_lem None e = refl
+is_over_lem (Some event) e = never cc
+
+-- by the library's question
+pub asked_over : (event : Option Event) (none : Bool) → is_some event ≡ not none → is_over event ≡ none
+asked_over None true e = refl
+asked_over None false e = never cc
+asked_over (Some event) true e = never cc
+asked_over (Some event) false e = refl
 
 module _ (text : List ℕ) (cursor : Cursor) (found : Found) (f : found ≡ next_of text cursor) where
   -- one more was found
@@ -52,12 +57,12 @@ module _ (text : List ℕ) (cursor : Cursor) (found : Found) (f : found ≡ next
   fewer_left e = omega (arith, ap length (one_found e))
 
   -- whether a fault was told, or is among what is left
-  pub fault_told : (told later : Bool) → is_over found.event ≡ false → later ≡ (ifᵇ told then true else is_fault found.event)
+  pub fault_told : (told later : Bool) → is_over found.event ≡ false → later ≡ (told || is_fault found.event)
       → (ifᵇ later then true else any_fault (all_from text found.cursor)) ≡ (ifᵇ told then true else any_fault (all_from text cursor))
   unfolding any_fault
   fault_told told later e l = rw (one_found e, l) (go told (is_fault found.event) (any_fault (all_from text found.cursor)))
     where
-      go : (a b c : Bool) → (ifᵇ (ifᵇ a then true else b) then true else c) ≡ (ifᵇ a then true else (ifᵇ b then true else c))
+      go : (a b c : Bool) → (ifᵇ (a || b) then true else c) ≡ (ifᵇ a then true else (ifᵇ b then true else c))
       go true b c = refl
       go false true c = refl
       go false false c = refl
@@ -108,22 +113,22 @@ unfolding any_fault faults_of
 no_fault [] e = refl
 no_fault (found ∷ all) e = go found.event e (no_fault all)
   where
-    go : (event : Event) → (ifᵇ is_fault event then true else any_fault all) ≡ false → (any_fault all ≡ false → faults_of all ≡ [])
+    go : (event : Option Event) → (ifᵇ is_fault event then true else any_fault all) ≡ false → (any_fault all ≡ false → faults_of all ≡ [])
         → fault_in event found ++ faults_of all ≡ []
-    go Nothing e further = further e
-    go Sheet e further = further e
-    go (Fault fault row) e further = never cc
+    go None e further = further e
+    go (Some Sheet) e further = further e
+    go (Some (Fault fault row)) e further = never cc
 
 none_told : (all : List Found) → faults_of all ≡ [] → any_fault all ≡ false
 unfolding any_fault faults_of
 none_told [] e = refl
 none_told (found ∷ all) e = go found.event e (none_told all)
   where
-    go : (event : Event) → fault_in event found ++ faults_of all ≡ [] → (faults_of all ≡ [] → any_fault all ≡ false)
+    go : (event : Option Event) → fault_in event found ++ faults_of all ≡ [] → (faults_of all ≡ [] → any_fault all ≡ false)
         → (ifᵇ is_fault event then true else any_fault all) ≡ false
-    go Nothing e further = further e
-    go Sheet e further = further e
-    go (Fault fault row) e further = never cc
+    go None e further = further e
+    go (Some Sheet) e further = further e
+    go (Some (Fault fault row)) e further = never cc
 
 pub none_told_exactly : (text : List ℕ) → (any_fault (all_of text) ≡ false) ↔ Faultless text
 unfolding Faultless

@@ -1,7 +1,8 @@
 -- Lines in a buffer: where each stands, and what is written when the next does not fit behind it.
-use Rattle.std.specs.Prelude.{ℕ, ◌+◌, List, [], ◌∷◌, ◌++◌, length, take}
+use Rattle.std.specs.Prelude.{ℕ, ◌+◌, List, [], ◌∷◌, ◌++◌, length, take, Option, Some, None}
 use Rattle.laws.specs.Choice.{ifᵇ◌then◌else◌, ◌≤ᵇ◌}
 use Rattle.lines.specs.Lines.{place_within, buffer_within}
+use Rattle.channel.specs.declared.output.Out.{Out}
 
 -- the place of the next line, and the buffer
 pub record Lines : Type 0 where
@@ -38,3 +39,7 @@ module _ (room : ℕ) where
   unfoldable pub written : List (List ℕ) → Lines → List ℕ
   written [] l = []
   written (line ∷ lines) l = written_for l.buffer l.at ++ written lines (with_line line l)
+
+-- what waits in the buffer, where the output takes it
+abbrev pub rest_of : Out → Option ℕ
+rest_of out = ifᵇ out.«open» then Some out.at else None

@@ -1,15 +1,13 @@
 -- Bytes shown as text (section 14.5): the text of each sheet with its index, what the program's own steps come to, and the whole text.
-use Rattle.std.specs.Prelude.{◌≡◌, true, ℕ, length, take, Option, Some, None}
+use Rattle.std.specs.Prelude.{◌≡◌, ℕ, take, Option, Some, None}
 use mathlib.Core.List.{List, [], ◌∷◌, ◌++◌, flatten}
 use Rattle.record.specs.Counting.{one_more}
 use Rattle.texts.specs.Shown.{shown_bytes, shown_text}
-use Rattle.channel.specs.Input.{Filling, ToItsEnd}
+use Rattle.channel.specs.Input.{ToItsEnd}
 use Rattle.channel.specs.Output.{Lines, with_lines, written}
 use Rattle.channel.specs.Text.{sheets_of}
-use Rattle.channel.specs.Printing.{input_block, printed_count}
+use Rattle.channel.specs.Printing.{input_block}
 use Rattle.channel.specs.declared.showing.State.{State}
-use Rattle.channel.specs.declared.showing.Turn.{Turn}
-use Rattle.channel.specs.declared.showing.Shown.{Shown}
 
 -- the index of the last sheet, once some more have come
 unfoldable pub index_after : ℕ → List (List ℕ) → ℕ
@@ -46,18 +44,14 @@ at_first buffer = record { index = 0; lines = record { at = 0; buffer = buffer }
 unfoldable pub sheets_shown : List (List ℕ) → Progress → Progress
 sheets_shown sheets p = record { index = index_after p.index sheets; lines = with_lines shown_bytes (shown_texts p.index sheets) p.lines }
 
--- one block more
-pub record BlockShown (p : Progress) (turn : Turn) (space buffer : List ℕ) : Type 0 where
-  pub filling : Filling turn.filled (length space)
-  pub sheets_shown_is : progress turn.state buffer ≡ sheets_shown (sheets_of (take (printed_count turn.filled) space)) p
-
 -- the sheets of an input's bytes
 abbrev pub InputShown : Progress → Progress → List ℕ → Type 0
 InputShown p q input = q ≡ sheets_shown (sheets_of input) p
 
 -- where the input was read to its end and the output took it, they are shown, in whatever blocks it came
-abbrev pub AllShown : List ℕ → Shown → List ℕ → Type 0
-AllShown buffer all later = all.whole ≡ true → ToItsEnd input_block (InputShown (at_first buffer) (progress all.state later))
+abbrev pub AllShown : List ℕ → Option State → List ℕ → Type 0
+AllShown buffer (Some state) later = ToItsEnd input_block (InputShown (at_first buffer) (progress state later))
+AllShown buffer None later = Unit {0}
 
 -- ---- the whole text
 

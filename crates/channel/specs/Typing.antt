@@ -5,21 +5,20 @@ use Rattle.texts.specs.Shown.{sheet_bytes, sheet_text}
 use Rattle.texts.specs.Texts.{all_of}
 use Rattle.texts.specs.Typed.{sheet_in, sheets_of, typed_bytes}
 use Rattle.texts.specs.declared.Event.{Event}
-use Rattle.texts.specs.declared.Event.TheVariants.{Nothing, Sheet, Fault}
+use Rattle.texts.specs.declared.Event.TheVariants.{Sheet, Fault}
 use Rattle.texts.specs.declared.Found.{Found}
 use Rattle.channel.specs.Output.{Lines, with_lines, written}
 use Rattle.channel.specs.declared.output.Out.{Out}
 
 -- nothing more was found
-abbrev pub is_over : Event → Bool
-is_over Nothing = true
-is_over Sheet = false
-is_over (Fault fault row) = false
+abbrev pub is_over : Option Event → Bool
+is_over None = true
+is_over (Some event) = false
 
-abbrev pub is_fault : Event → Bool
-is_fault Nothing = false
-is_fault Sheet = false
-is_fault (Fault fault row) = true
+abbrev pub is_fault : Option Event → Bool
+is_fault None = false
+is_fault (Some Sheet) = false
+is_fault (Some (Fault fault row)) = true
 
 -- a fault is among what was found
 unfoldable pub any_fault : List Found → Bool

@@ -5,9 +5,9 @@ ghost use Rattle.channel.specs.Printing.{worked_in};
 
 use crate::output;
 use both::{Both, Verdict};
-use lines::Form;
 use datum::Level;
 use gauge::LevelFault;
+use lines::Form;
 
 // The bytes of the message that names a sheet: its words have 50, and its index at most 20.
 const MESSAGE: usize = 70;

@@ -8,11 +8,11 @@ ghost use Rattle.channel.specs.Printing.{LinesPrinted, TextPrinted};
 
 use crate::reading::Task;
 use crate::worksheets::Source;
+use datum::Level;
+use gauge::LevelFault;
 use lines::Form;
 use record::Counts;
 use std::env::{Env, FillError};
-use datum::Level;
-use gauge::LevelFault;
 
 mod engines;
 mod input;
@@ -40,52 +40,30 @@ fn main(rt: HostRuntime) {
         // No word of the program's is as long.
         Err(FillError::TooLong) => of_word(rt, Some(b""), &mut buffer),
     };
-    match text {
-        Some(rest) => {
-            output::put_out(rt, &buffer, rest);
-        }
-        None => {}
+    if let Some(rest) = text {
+        output::put_out(rt, &buffer, rest);
     }
-}
-
-// Whether a word is another.
-fn same_word(word: &[u8], name: &[u8]) -> bool {
-    if word.len() != name.len() {
-        return false;
-    }
-    typed::begins_with(word, name)
 }
 
 // What the program's first word asks for; without one it prints.
 fn of_word(rt: HostRuntime, first: Option<&[u8]>, buffer: &mut [u8]) -> Option<usize>
     requires { 65536 ≤ length buffer.old }
 {
-    let word = match first {
-        Some(word) => word,
-        None => return print(rt, Form::Alone, buffer),
-    };
-    if same_word(word, b"both") {
-        return print(rt, Form::Both, buffer);
+    match first {
+        None => print(rt, Form::Alone, buffer),
+        Some(b"both") => print(rt, Form::Both, buffer),
+        Some(b"type") => reading::of_input(rt, Task::Type, buffer),
+        Some(b"show") => showing::show(rt, buffer),
+        Some(b"worksheet") => reading::of_input(rt, Task::Worksheets(Source::Bytes), buffer),
+        Some(b"worksheet-text") => reading::of_input(rt, Task::Worksheets(Source::Typed), buffer),
+        Some(b"form") => Some(texts::put_form(buffer, 0)),
+        Some(_) => {
+            let _ = eprintln!(rt;
+                "no such word: both, type, show, form, worksheet and worksheet-text are known"
+            );
+            None
+        }
     }
-    if same_word(word, b"type") {
-        return reading::of_input(rt, Task::Type, buffer);
-    }
-    if same_word(word, b"show") {
-        return showing::show(rt, buffer);
-    }
-    if same_word(word, b"worksheet") {
-        return reading::of_input(rt, Task::Worksheets(Source::Bytes), buffer);
-    }
-    if same_word(word, b"worksheet-text") {
-        return reading::of_input(rt, Task::Worksheets(Source::Typed), buffer);
-    }
-    if same_word(word, b"form") {
-        return Some(texts::put_form(buffer, 0));
-    }
-    let _ = eprintln!(rt;
-        "no such word: both, type, show, form, worksheet and worksheet-text are known"
-    );
-    None
 }
 
 // The text of the record and the sheets.
@@ -94,17 +72,8 @@ fn print(rt: HostRuntime, form: Form, buffer: &mut [u8]) -> Option<usize>
     ensures { TextPrinted form buffer.old result buffer.new }
 {
     let mut table = [0u32; gauge::SLOTS];
-    let loaded = levels::load(rt, &mut table);
-    match loaded {
-        Some(counts) => print_lines(
-            rt,
-            form,
-            gauge::design_level(&table),
-            counts,
-            buffer,
-        ),
-        None => None,
-    }
+    let counts = levels::load(rt, &mut table)?;
+    print_lines(rt, form, gauge::design_level(&table), counts, buffer)
 }
 
 // The record's line, the sheets' lines and the route's, written as the buffer fills but for the last of them.
@@ -119,14 +88,6 @@ fn print_lines(
     ensures { LinesPrinted form level counts buffer.old result buffer.new }
 {
     let at = lines::put_levels_line(counts.added, counts.missing, counts.refused, buffer, 0);
-    let printed = sheets::print_all(rt, form, level, buffer, at);
-    if !printed.whole {
-        output::cut_short(rt, buffer, printed.state.out, printed.failure);
-        return None;
-    }
-    let last = sheets::print_route(rt, form, buffer, printed.state);
-    if last.open {
-        return Some(last.at);
-    }
-    None
+    let state = sheets::print_all(rt, form, level, buffer, at)?;
+    sheets::print_route(rt, form, buffer, state).rest()
 }

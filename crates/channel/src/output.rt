@@ -1,7 +1,7 @@
 // The buffer in which lines wait, and its writing to standard output.
-ghost use Rattle.std.specs.Prelude.{◌≡◌, ◌↔◌, ◌⊎◌, IsTrue, Some, pos};
+ghost use Rattle.std.specs.Prelude.{◌≡◌, ◌↔◌, ◌⊎◌, IsTrue, Some, None, pos};
 ghost use Rattle.std.specs.IoError.{error_kind, raw_os_error};
-ghost use Rattle.channel.specs.Output.{place_for};
+ghost use Rattle.channel.specs.Output.{place_for, rest_of};
 
 use std::alloc::{AllocError, Global};
 use std::io;
@@ -9,6 +9,9 @@ use std::io::{ErrorKind, Print};
 
 // The number of the system's error where a descriptor is closed.
 const BAD_DESCRIPTOR: i32 = 9;
+
+// The input that the program's words read.
+pub const INPUT: &str = "standard input";
 
 // Where the next line goes in the buffer, and whether the output still takes it.
 #[derive(Clone, Copy)]
@@ -35,13 +38,21 @@ fn fail_by(rt: HostRuntime, what: &str, error: io::Error) {
 }
 
 // Tells on standard error what failed, and by which error; without one it took too many turns.
-pub fn fail(rt: HostRuntime, what: &str, failure: Option<io::Error>) {
+fn fail(rt: HostRuntime, what: &str, failure: Option<io::Error>) {
     match failure {
         Some(error) => fail_by(rt, what, error),
         None => {
             let _ = eprintln!(rt; "{what}: it comes in too many parts");
         }
     }
+}
+
+// Nothing of an input that failed, which is told.
+pub fn failed<T: Copy>(rt: HostRuntime, what: &str, failure: Option<io::Error>) -> Option<T>
+    ensures { result ≡ None }
+{
+    fail(rt, what, failure);
+    None
 }
 
 // Writes the buffer's first bytes; an error where the output takes no more.
@@ -58,6 +69,18 @@ fn is_closed(error: io::Error) -> bool
     ensures { IsTrue result ↔ ((error_kind error ≡ ErrorKind.BrokenPipe) ⊎ (raw_os_error error ≡ Some (pos 9))) }
 {
     error.kind() == ErrorKind::BrokenPipe || error.raw_os_error() == Some(BAD_DESCRIPTOR)
+}
+
+impl Out {
+    // What waits in the buffer, where the output takes it.
+    pub fn rest(self) -> Option<usize>
+        ensures { result ≡ rest_of self }
+    {
+        if self.open {
+            return Some(self.at);
+        }
+        None
+    }
 }
 
 // Writes the buffer's first bytes to standard output; false where that takes no more. What is wrong with it is told; a closed one is left quietly.
@@ -84,9 +107,17 @@ pub fn made_ready(rt: HostRuntime, buffer: &[u8], out: Out, room: usize) -> Out
     Out { at: 0, open }
 }
 
-// Where the input failed, what waits is written, and then that is told. A closed output is left quietly.
-pub fn cut_short(rt: HostRuntime, buffer: &[u8], out: Out, failure: Option<io::Error>) {
-    if out.open && put_out(rt, buffer, out.at) {
-        fail(rt, "standard input", failure);
+// Nothing of an input that failed: what waits is written, and then that is told. A closed output is left quietly.
+pub fn cut_short<T: Copy>(
+    rt: HostRuntime,
+    buffer: &[u8],
+    at: usize,
+    failure: Option<io::Error>,
+) -> Option<T>
+    ensures { result ≡ None }
+{
+    if put_out(rt, buffer, at) {
+        fail(rt, INPUT, failure);
     }
+    None
 }

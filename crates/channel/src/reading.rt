@@ -3,10 +3,9 @@ ghost use Rattle.std.specs.Prelude.{◌≡◌, ◌≤◌, length, None};
 ghost use Rattle.worksheet.specs.Framing.{page_bytes};
 ghost use Rattle.channel.specs.Input.{ReadWithin};
 
-use crate::input::Filled;
+use crate::input::Stop;
 use crate::worksheets::Source;
 use crate::{input, output, typing, worksheets};
-use std::io;
 
 // The bytes of the longest input that is read whole.
 const LONGEST: usize = 4194304;
@@ -18,10 +17,10 @@ pub enum Task {
     Worksheets(Source),
 }
 
-// What standard input has behind an input that fills its space: a byte, none, or a read that fails.
-fn behind(rt: HostRuntime) -> Filled {
+// Why no more than a byte is behind an input that fills its space.
+fn behind(rt: HostRuntime) -> Stop {
     let mut space = [0u8; 1];
-    input::fill(&mut rt.stdin(), &mut space)
+    input::fill(&mut rt.stdin(), &mut space).stop
 }
 
 // The space of the longest input.
@@ -29,13 +28,6 @@ fn input_space() -> [u8; LONGEST]
     ensures { 4194304 ≡ length result }
 {
     [0; LONGEST]
-}
-
-fn not_read(rt: HostRuntime, failure: Option<io::Error>) -> Option<usize>
-    ensures { result ≡ None }
-{
-    output::fail(rt, "standard input", failure);
-    None
 }
 
 fn too_long(rt: HostRuntime) -> Option<usize>
@@ -49,20 +41,16 @@ fn too_long(rt: HostRuntime) -> Option<usize>
 fn read_whole(rt: HostRuntime, space: &mut [u8]) -> Option<usize>
     ensures { ReadWithin result (length space.old) }
 {
-    let filled = input::fill(&mut rt.stdin(), &mut *space);
-    if filled.failed {
-        return not_read(rt, filled.error);
+    let filled = input::fill(&mut rt.stdin(), space);
+    let stop = match filled.stop {
+        Stop::Full => behind(rt),
+        stop => stop,
+    };
+    match stop {
+        Stop::Ended => Some(filled.count),
+        Stop::Full => too_long(rt),
+        Stop::Failed(error) => output::failed(rt, output::INPUT, error),
     }
-    if !filled.ended {
-        let rest = behind(rt);
-        if rest.failed {
-            return not_read(rt, rest.error);
-        }
-        if 0 < rest.count {
-            return too_long(rt);
-        }
-    }
-    Some(filled.count)
 }
 
 // What a task makes of an input.
@@ -80,9 +68,6 @@ pub fn of_input(rt: HostRuntime, task: Task, buffer: &mut [u8]) -> Option<usize>
     requires { page_bytes ≤ length buffer.old }
 {
     let mut space = input_space();
-    let read = read_whole(rt, &mut space);
-    match read {
-        Some(count) => made_of(rt, task, &space[..count], buffer),
-        None => None,
-    }
+    let count = read_whole(rt, &mut space)?;
+    made_of(rt, task, &space[..count], buffer)
 }

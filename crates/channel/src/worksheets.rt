@@ -10,11 +10,11 @@ ghost use Rattle.channel.specs.Worksheets.{text_by, progress, one_put, all_put, 
 
 use crate::output::Out;
 use crate::route::Route;
-use crate::{levels, output, route, sheets, typing};
+use crate::{levels, output, sheets, typing};
+use design::{Figures, Reason};
 use gauge::LevelSteps;
 use record::Counts;
 use worksheet::{Greatest, Readings, Totals};
-use design::{Figures, Reason};
 
 // What is put of each sheet: its page, or then its line of the route.
 #[derive(Clone, Copy)]
@@ -51,6 +51,7 @@ fn put_text(
 }
 
 // One sheet more.
+#[tactic(auto, unfolding(crate::specs::Worksheets::one_put, crate::specs::Output::with_line))]
 fn put_one(
     rt: HostRuntime,
     pass: Pass,
@@ -62,15 +63,11 @@ fn put_one(
 ) -> State
     ensures { progress result buffer.new ≡ one_put pass steps name.now sheet.now (progress state buffer.old) }
 {
-    let so_far = state.route;
-    let most = state.greatest;
-    let out = state.out;
-    let read = steps.read;
-    let ready = output::made_ready(rt, buffer, out, worksheet::PAGE_BYTES);
-    let answer = design::design_at(sheet, read);
-    let route = route::with_sheet(so_far, answer);
-    let greatest = worksheet::with_stretch(most, answer);
-    let after = put_text(
+    let ready = output::made_ready(rt, buffer, state.out, worksheet::PAGE_BYTES);
+    let answer = design::design_at(sheet, steps.read);
+    let route = state.route.with_sheet(answer);
+    let greatest = worksheet::with_stretch(state.greatest, answer);
+    let at = put_text(
         pass,
         steps,
         route.sheets,
@@ -81,10 +78,7 @@ fn put_one(
         ready.at,
     );
     State {
-        out: Out {
-            at: after,
-            open: ready.open,
-        },
+        out: Out { at, ..ready },
         route,
         greatest,
     }
@@ -94,12 +88,10 @@ fn put_one(
 fn at_first(out: Out) -> State
     ensures { (result.out ≡ out) × ((result.route ≡ no_sheets) × (result.greatest ≡ none_yet)) }
 {
-    let route = route::no_sheets();
-    let greatest = worksheet::none_yet();
     State {
         out,
-        route,
-        greatest,
+        route: Route::new(),
+        greatest: worksheet::none_yet(),
     }
 }
 
@@ -129,11 +121,8 @@ fn put_bytes(
     ensures { progress result buffer.new ≡ all_put pass steps (unnamed (sheets_of input.now)) (progress state buffer.old) }
 {
     let mut now = state;
-    let mut from: usize = 0;
-    while from < input.len() {
-        let to = sheets::sheet_end(from, input.len());
-        now = put_unnamed(rt, pass, steps, &input[from..to], &mut *buffer, now);
-        from = to;
+    for sheet in input.chunks(sheets::SHEET) {
+        now = put_unnamed(rt, pass, steps, sheet, &mut *buffer, now);
     }
     now
 }
@@ -161,10 +150,16 @@ fn put_named(
     ensures { progress result buffer.new ≡ one_put pass steps (name_of text.now from) (bytes_for figures) (progress state buffer.old) }
 {
     let name = texts::name_after(text, from);
-    let start = name.start;
-    let end = name.end;
     let bytes = bytes_for(figures);
-    put_one(rt, pass, steps, &text[start..end], &bytes, buffer, state)
+    put_one(
+        rt,
+        pass,
+        steps,
+        &text[name.start..name.end],
+        &bytes,
+        buffer,
+        state,
+    )
 }
 
 // The sheets of a typed text without a fault, with their names.
@@ -182,37 +177,41 @@ fn put_typed(
     let mut now = state;
     loop {
         let found = texts::next(text, cursor);
-        let event = found.event;
-        let after = found.cursor;
-        if typing::is_over(event) {
+        if found.event.is_none() {
             return now;
         }
-        let figures = after.figures;
-        now = put_named(rt, pass, steps, text, cursor.at, figures, &mut *buffer, now);
+        let after = found.cursor;
+        now = put_named(
+            rt,
+            pass,
+            steps,
+            text,
+            cursor.at,
+            after.figures,
+            &mut *buffer,
+            now,
+        );
         cursor = after;
     }
 }
 
 // The head of the route behind the pages.
+#[tactic(auto, unfolding(crate::specs::Worksheets::head_put, crate::specs::Output::with_line))]
 fn put_head(rt: HostRuntime, buffer: &mut [u8], out: Out) -> Out
     ensures { lines_at result buffer.new ≡ head_put (lines_at out buffer.old) }
 {
     let ready = output::made_ready(rt, buffer, out, worksheet::PAGE_BYTES);
     let at = worksheet::put_route_head(buffer, ready.at);
-    Out {
-        at,
-        open: ready.open,
-    }
+    Out { at, ..ready }
 }
 
 // The end of the route.
+#[tactic(auto, unfolding(crate::specs::Worksheets::foot_put, crate::specs::Output::with_line))]
 fn put_foot(rt: HostRuntime, counts: Counts, buffer: &mut [u8], state: State) -> Out
     ensures { lines_at result buffer.new ≡ foot_put counts (progress state buffer.old) }
 {
-    let out = state.out;
     let route = state.route;
-    let greatest = state.greatest;
-    let ready = output::made_ready(rt, buffer, out, worksheet::PAGE_BYTES);
+    let ready = output::made_ready(rt, buffer, state.out, worksheet::PAGE_BYTES);
     let totals = Totals {
         sheets: route.sheets,
         answered: route.answered,
@@ -223,11 +222,8 @@ fn put_foot(rt: HostRuntime, counts: Counts, buffer: &mut [u8], state: State) ->
         missing: counts.missing,
         refused: counts.refused,
     };
-    let at = worksheet::put_route_foot(totals, greatest, readings, buffer, ready.at);
-    Out {
-        at,
-        open: ready.open,
-    }
+    let at = worksheet::put_route_foot(totals, state.greatest, readings, buffer, ready.at);
+    Out { at, ..ready }
 }
 
 // Where the sheets come from: bytes, or a typed text.
@@ -269,15 +265,10 @@ fn put_worksheets(
 {
     let first = at_first(Out { at: 0, open: true });
     let pages = put_all(rt, source, Pass::Pages, steps, input, buffer, first);
-    let behind = pages.out;
-    let head = put_head(rt, buffer, behind);
+    let head = put_head(rt, buffer, pages.out);
     let again = at_first(head);
     let stretches = put_all(rt, source, Pass::Stretches, steps, input, buffer, again);
-    let last = put_foot(rt, counts, buffer, stretches);
-    if last.open {
-        return Some(last.at);
-    }
-    None
+    put_foot(rt, counts, buffer, stretches).rest()
 }
 
 // The same of a text only where it has no fault; its faults are told.
@@ -304,21 +295,23 @@ fn put_faultless(
 }
 
 // The worksheets of an input over the record of levels.bin.
-pub fn over_record(rt: HostRuntime, source: Source, input: &[u8], buffer: &mut [u8]) -> Option<usize>
+pub fn over_record(
+    rt: HostRuntime,
+    source: Source,
+    input: &[u8],
+    buffer: &mut [u8],
+) -> Option<usize>
     requires { page_bytes ≤ length buffer.old }
     ensures { OverRecord source input.now buffer.old result buffer.new }
 {
     let mut table = [0u32; gauge::SLOTS];
-    let loaded = levels::load(rt, &mut table);
-    match loaded {
-        Some(counts) => put_faultless(
-            rt,
-            source,
-            gauge::level_steps(&table),
-            counts,
-            input,
-            buffer,
-        ),
-        None => None,
-    }
+    let counts = levels::load(rt, &mut table)?;
+    put_faultless(
+        rt,
+        source,
+        gauge::level_steps(&table),
+        counts,
+        input,
+        buffer,
+    )
 }

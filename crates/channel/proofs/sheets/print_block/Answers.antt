@@ -1,24 +1,25 @@
 -- Each turn takes the first sheet of what is left.
 use mathlib.Core.Path.{sym, ◌∙◌}
-use native.Mathlib.Omega.{arith}
+use Rattle.std.specs.Slice.Iter.{chunks_rest}
 use Rattle.channel.specs.Printing.{progress}
-use Rattle.channel.proofs.Taking.{sheet_more, none_more}
 use Rattle.channel.proofs.Printing.{printing}
+use Rattle.channel.proofs.Taking.{sheet_more, no_bytes}
 use Rattle.channel.proofs.sheets.print_block.Goals as goal
 
-pub loop-from-preserved : goal.loop-from-preserved
-loop-from-preserved c =
-    let l = c.loop-from in
-    let a = c.args in record {
-      within = omega (arith, c.sheet_end-to.ensures);
+pub loop-sheet-preserved : goal.loop-sheet-preserved
+loop-sheet-preserved c =
+    let l = c.loop-sheet in
+    let a = c.args in
+    let step = c.in-Some.ensures.steps in record {
+      size = step.0 ∙ l.invariant.size;
       all =
-          sym (sheet_more (printing a.form a.level) a.block.now l.from c.sheet_end-to.result (progress l.now l.buffer) _ c.loop-from-test.true
-          c.sheet_end-to.ensures c.print_sheet-now.ensures)
+          sheet_more (printing a.form a.level) (chunks_rest l.sheet-iterator) c.in-Some.sheet.now (chunks_rest c.next.new.self) (progress l.now l.buffer) _
+          step.1.0 (rw l.invariant.size at step.1.1) step.1.2 c.print_sheet-now.ensures
           ∙ l.invariant.all;
     }
 
 pub returns : goal.returns
 returns c =
-    let l = c.loop-from in
+    let l = c.loop-sheet in
     let a = c.args in
-    sym (none_more (printing a.form a.level) a.block.now l.from (progress l.now l.buffer) c.loop-from-test.false) ∙ l.invariant.all
+    sym (no_bytes (printing a.form a.level) (chunks_rest l.sheet-iterator) (progress l.now l.buffer) c.in-None.ensures.steps.1.0) ∙ l.invariant.all

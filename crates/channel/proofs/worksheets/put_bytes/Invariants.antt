@@ -1,15 +1,13 @@
--- The sheets that are left, put behind those that stand, are all of them. The measure is what is left.
-use Rattle.std.specs.Prelude.{◌≡◌, ◌-◌, ◌≤◌, length, drop}
+-- The sheets that are left, put behind those that stand, are all of them.
+use Rattle.std.specs.Prelude.{◌≡◌}
+use Rattle.std.specs.Slice.Iter.{chunks_rest, chunks_size}
 use Rattle.channel.specs.Text.{sheets_of}
 use Rattle.channel.specs.Worksheets.{unnamed, progress, all_put}
 use Rattle.channel.proofs.worksheets.put_bytes.Given as goal
 
-abbrev pub invariant-loop-from : goal.invariant-loop-from
-invariant-loop-from l = record {
-  within : l.from ≤ length l.input;
-  all : all_put l.pass l.steps (unnamed (sheets_of (drop l.from l.input))) (progress l.now l.buffer)
+abbrev pub invariant-loop-sheet : goal.invariant-loop-sheet
+invariant-loop-sheet l = record {
+  size : chunks_size l.sheet-iterator ≡ 28;
+  all : all_put l.pass l.steps (unnamed (sheets_of (chunks_rest l.sheet-iterator))) (progress l.now l.buffer)
       ≡ all_put l.pass l.steps (unnamed (sheets_of l.input)) (progress l.initial.now l.initial.buffer);
 }
-
-abbrev pub decreases-loop-from : goal.decreases-loop-from
-decreases-loop-from l = length l.input - l.from

@@ -1,8 +1,8 @@
 -- One sheet more is put, and at the end none is left.
-use mathlib.Core.Path.{sym, ◌∙◌}
+use mathlib.Core.Path.{◌∙◌}
 use Rattle.channel.specs.Worksheets.{progress}
 use Rattle.channel.proofs.Bundles.{named_more, none_named, all_named}
-use Rattle.channel.proofs.Faults.{fewer_left}
+use Rattle.channel.proofs.Faults.{asked_over, fewer_left}
 use Rattle.channel.proofs.worksheets.put_typed.Goals as goal
 
 pub loop-rt-init : goal.loop-rt-init
@@ -10,20 +10,20 @@ loop-rt-init c =
     let a = c.args in
     all_named a.pass a.steps a.text.now _ (progress a.state a.buffer.now) c.begin-cursor.ensures
 
-pub returns-then-is_over : goal.returns-then-is_over
-returns-then-is_over c =
+pub returns-then-is_none : goal.returns-then-is_none
+returns-then-is_none c =
     let l = c.loop-rt in
     let a = c.args in
-    none_named a.pass a.steps a.text.now l.cursor c.next-found.result c.next-found.ensures (progress l.now l.buffer) (sym c.is_over.ensures ∙ c.if-is_over.true)
+    none_named a.pass a.steps a.text.now l.cursor c.next-found.result c.next-found.ensures (progress l.now l.buffer) (asked_over _ _ c.is_none.ensures ∙ c.if-is_none.true)
     ∙ l.invariant
 
 pub loop-rt-smaller : goal.loop-rt-smaller
-loop-rt-smaller c = fewer_left c.args.text.now c.loop-rt.cursor c.next-found.result c.next-found.ensures (sym c.is_over.ensures ∙ c.if-is_over.false)
+loop-rt-smaller c = fewer_left c.args.text.now c.loop-rt.cursor c.next-found.result c.next-found.ensures (asked_over _ _ c.is_none.ensures ∙ c.if-is_none.false)
 
 pub loop-rt-preserved : goal.loop-rt-preserved
 loop-rt-preserved c =
     let l = c.loop-rt in
     let a = c.args in
     named_more a.pass a.steps a.text.now l.cursor c.next-found.result c.next-found.ensures (progress l.now l.buffer) _
-    (sym c.is_over.ensures ∙ c.if-is_over.false) c.put_named-now.ensures
+    (asked_over _ _ c.is_none.ensures ∙ c.if-is_none.false) c.put_named-now.ensures
     ∙ l.invariant
