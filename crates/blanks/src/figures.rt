@@ -10,6 +10,7 @@ use lines::fitting;
 const WORD: usize = 24;
 
 // The columns that a byte asks for.
+#[tactic(auto, unfolding(crate::specs::Blanks::width_of))]
 pub fn width_of(byte: u8) -> usize
     ensures { (result ≡ width_of byte) × (result ≤ 24) }
 {
@@ -61,6 +62,7 @@ fn put_spaces(count: usize, buffer: &mut [u8], at: usize) -> usize
 }
 
 // The text of a figure.
+#[tactic(auto, unfolding(crate::specs::Blanks::figure_text))]
 fn put_figure(figure: Figure, words: &[u8], buffer: &mut [u8], at: usize) -> usize
     requires { at + 24 ≤ length buffer.old }
     ensures { Put buffer.old at (figure_text words.now figure) buffer.new result × (result ≤ at + 24) }

@@ -27,6 +27,7 @@ const BLANK: u8 = b'%';
 const ROOM: usize = 12;
 
 // Puts a text with its blanks filled, and answers the place after it; the same place, and nothing put, where 12 bytes for each of the text's do not fit.
+#[tactic(auto, unfolding(lines::specs::Lines::place_within, lines::specs::Lines::buffer_within))]
 pub fn put_filled(
     text: &[u8],
     figures: &[Figure],
