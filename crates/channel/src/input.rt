@@ -49,7 +49,7 @@ pub fn fill<R: Read>(reader: &mut R, space: &mut [u8]) -> Filled
                 stop: Stop::Full,
             };
         }
-        match read_some(&mut *reader, &mut *space, have) {
+        match read_some(reader, space, have) {
             Ok(0) => {
                 return Filled {
                     count: have,

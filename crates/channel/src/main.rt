@@ -7,9 +7,8 @@ ghost use Rattle.lines.specs.Lines.{line_bytes};
 ghost use Rattle.channel.specs.Printing.{LinesPrinted, TextPrinted};
 
 use crate::reading::Task;
+use crate::sheets::Printer;
 use crate::worksheets::Source;
-use datum::Level;
-use gauge::LevelFault;
 use lines::Form;
 use record::Counts;
 use std::env::{Env, FillError};
@@ -73,21 +72,20 @@ fn print(rt: HostRuntime, form: Form, buffer: &mut [u8]) -> Option<usize>
 {
     let mut table = [0u32; gauge::SLOTS];
     let counts = levels::load(rt, &mut table)?;
-    print_lines(rt, form, gauge::design_level(&table), counts, buffer)
+    let printer = Printer {
+        rt,
+        form,
+        level: gauge::design_level(&table),
+    };
+    print_lines(printer, counts, buffer)
 }
 
 // The record's line, the sheets' lines and the route's, written as the buffer fills but for the last of them.
-fn print_lines(
-    rt: HostRuntime,
-    form: Form,
-    level: Result<Level, LevelFault>,
-    counts: Counts,
-    buffer: &mut [u8],
-) -> Option<usize>
+fn print_lines(printer: Printer, counts: Counts, buffer: &mut [u8]) -> Option<usize>
     requires { line_bytes ≤ length buffer.old }
-    ensures { LinesPrinted form level counts buffer.old result buffer.new }
+    ensures { LinesPrinted printer.form printer.level counts buffer.old result buffer.new }
 {
     let at = lines::put_levels_line(counts.added, counts.missing, counts.refused, buffer, 0);
-    let state = sheets::print_all(rt, form, level, buffer, at)?;
-    sheets::print_route(rt, form, buffer, state).rest()
+    let state = printer.print_all(buffer, at)?;
+    printer.print_route(buffer, state).rest()
 }

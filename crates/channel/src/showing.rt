@@ -35,7 +35,7 @@ fn show_block(rt: HostRuntime, block: &[u8], buffer: &mut [u8], state: State) ->
 {
     let mut now = state;
     for sheet in block.chunks(sheets::SHEET) {
-        now = show_sheet(rt, sheet, &mut *buffer, now);
+        now = show_sheet(rt, sheet, buffer, now);
     }
     now
 }
@@ -53,7 +53,7 @@ fn show_all(rt: HostRuntime, buffer: &mut [u8]) -> Option<State>
     for _ in 0..input::TURNS {
         let filled = input::fill(&mut rt.stdin(), &mut space);
         let count = sheets::printed_of(filled);
-        state = show_block(rt, &space[..count], &mut *buffer, state);
+        state = show_block(rt, &space[..count], buffer, state);
         if !state.out.open {
             return None;
         }

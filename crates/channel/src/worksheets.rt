@@ -16,11 +16,26 @@ use gauge::LevelSteps;
 use record::Counts;
 use worksheet::{Greatest, Readings, Totals};
 
+// Where the sheets come from: bytes, or a typed text.
+#[derive(Clone, Copy)]
+pub enum Source {
+    Bytes,
+    Typed,
+}
+
 // What is put of each sheet: its page, or then its line of the route.
 #[derive(Clone, Copy)]
 enum Pass {
     Pages,
     Stretches,
+}
+
+// How each sheet is put: by which handle of the run, in which pass, and by the record's steps.
+#[derive(Clone, Copy)]
+struct Putting {
+    rt: HostRuntime,
+    pass: Pass,
+    steps: LevelSteps,
 }
 
 // The texts so far, the route, and its greatest figures.
@@ -31,56 +46,101 @@ struct State {
     greatest: Greatest,
 }
 
-// The page of a sheet, or its line of the route.
-fn put_text(
-    pass: Pass,
-    steps: LevelSteps,
-    index: u64,
-    name: &[u8],
-    sheet: &[u8],
-    answer: Result<Figures, Reason>,
-    buffer: &mut [u8],
-    at: usize,
-) -> usize
-    ensures { (result ≡ place_within page_bytes (text_by pass steps index name.now sheet.now answer) at buffer.old) × (buffer.new ≡ buffer_within page_bytes (text_by pass steps index name.now sheet.now answer) at buffer.old) }
-{
-    match pass {
-        Pass::Pages => worksheet::put_page(index, name, sheet, steps, buffer, at),
-        Pass::Stretches => worksheet::put_stretch(index, answer, buffer, at),
+impl Putting {
+    // The page of a sheet, or its line of the route.
+    fn put_text(
+        self,
+        index: u64,
+        name: &[u8],
+        sheet: &[u8],
+        answer: Result<Figures, Reason>,
+        buffer: &mut [u8],
+        at: usize,
+    ) -> usize
+        ensures { (result ≡ place_within page_bytes (text_by self.pass self.steps index name.now sheet.now answer) at buffer.old) × (buffer.new ≡ buffer_within page_bytes (text_by self.pass self.steps index name.now sheet.now answer) at buffer.old) }
+    {
+        match self.pass {
+            Pass::Pages => worksheet::put_page(index, name, sheet, self.steps, buffer, at),
+            Pass::Stretches => worksheet::put_stretch(index, answer, buffer, at),
+        }
     }
-}
 
-// One sheet more.
-#[tactic(auto, unfolding(crate::specs::Worksheets::one_put, crate::specs::Output::with_line))]
-fn put_one(
-    rt: HostRuntime,
-    pass: Pass,
-    steps: LevelSteps,
-    name: &[u8],
-    sheet: &[u8],
-    buffer: &mut [u8],
-    state: State,
-) -> State
-    ensures { progress result buffer.new ≡ one_put pass steps name.now sheet.now (progress state buffer.old) }
-{
-    let ready = output::made_ready(rt, buffer, state.out, worksheet::PAGE_BYTES);
-    let answer = design::design_at(sheet, steps.read);
-    let route = state.route.with_sheet(answer);
-    let greatest = worksheet::with_stretch(state.greatest, answer);
-    let at = put_text(
-        pass,
-        steps,
-        route.sheets,
-        name,
-        sheet,
-        answer,
-        buffer,
-        ready.at,
-    );
-    State {
-        out: Out { at, ..ready },
-        route,
-        greatest,
+    // One sheet more.
+    #[tactic(auto, unfolding(crate::specs::Worksheets::one_put, crate::specs::Output::with_line))]
+    fn put_one(self, name: &[u8], sheet: &[u8], buffer: &mut [u8], state: State) -> State
+        ensures { progress result buffer.new ≡ one_put self.pass self.steps name.now sheet.now (progress state buffer.old) }
+    {
+        let ready = output::made_ready(self.rt, buffer, state.out, worksheet::PAGE_BYTES);
+        let answer = design::design_at(sheet, self.steps.read);
+        let route = state.route.with_sheet(answer);
+        let greatest = worksheet::with_stretch(state.greatest, answer);
+        let at = self.put_text(route.sheets, name, sheet, answer, buffer, ready.at);
+        State {
+            out: Out { at, ..ready },
+            route,
+            greatest,
+        }
+    }
+
+    // One sheet more, without a name.
+    fn put_unnamed(self, sheet: &[u8], buffer: &mut [u8], state: State) -> State
+        ensures { progress result buffer.new ≡ one_put self.pass self.steps [] sheet.now (progress state buffer.old) }
+    {
+        self.put_one(b"", sheet, buffer, state)
+    }
+
+    // The sheets of bytes, which have no names.
+    fn put_bytes(self, input: &[u8], buffer: &mut [u8], state: State) -> State
+        ensures { progress result buffer.new ≡ all_put self.pass self.steps (unnamed (sheets_of input.now)) (progress state buffer.old) }
+    {
+        let mut now = state;
+        for sheet in input.chunks(sheets::SHEET) {
+            now = self.put_unnamed(sheet, buffer, now);
+        }
+        now
+    }
+
+    // A sheet that was found in a text behind a place, with its name.
+    fn put_named(
+        self,
+        text: &[u8],
+        from: usize,
+        figures: [u32; sheet::COUNT],
+        buffer: &mut [u8],
+        state: State,
+    ) -> State
+        ensures { progress result buffer.new ≡ one_put self.pass self.steps (name_of text.now from) (bytes_for figures) (progress state buffer.old) }
+    {
+        let name = texts::name_after(text, from);
+        let bytes = bytes_for(figures);
+        self.put_one(&text[name.start..name.end], &bytes, buffer, state)
+    }
+
+    // The sheets of a typed text without a fault, with their names.
+    fn put_typed(self, text: &[u8], buffer: &mut [u8], state: State) -> State
+        ensures { progress result buffer.new ≡ all_put self.pass self.steps (named_of text.now) (progress state buffer.old) }
+    {
+        let mut cursor = texts::begin();
+        let mut now = state;
+        loop {
+            let found = texts::next(text, cursor);
+            if found.event.is_none() {
+                return now;
+            }
+            let after = found.cursor;
+            now = self.put_named(text, cursor.at, after.figures, buffer, now);
+            cursor = after;
+        }
+    }
+
+    // All sheets of an input.
+    fn put_all(self, source: Source, input: &[u8], buffer: &mut [u8], state: State) -> State
+        ensures { progress result buffer.new ≡ all_put self.pass self.steps (items_of source input.now) (progress state buffer.old) }
+    {
+        match source {
+            Source::Bytes => self.put_bytes(input, buffer, state),
+            Source::Typed => self.put_typed(input, buffer, state),
+        }
     }
 }
 
@@ -95,38 +155,6 @@ fn at_first(out: Out) -> State
     }
 }
 
-// One sheet more, without a name.
-fn put_unnamed(
-    rt: HostRuntime,
-    pass: Pass,
-    steps: LevelSteps,
-    sheet: &[u8],
-    buffer: &mut [u8],
-    state: State,
-) -> State
-    ensures { progress result buffer.new ≡ one_put pass steps [] sheet.now (progress state buffer.old) }
-{
-    put_one(rt, pass, steps, b"", sheet, buffer, state)
-}
-
-// The sheets of bytes, which have no names.
-fn put_bytes(
-    rt: HostRuntime,
-    pass: Pass,
-    steps: LevelSteps,
-    input: &[u8],
-    buffer: &mut [u8],
-    state: State,
-) -> State
-    ensures { progress result buffer.new ≡ all_put pass steps (unnamed (sheets_of input.now)) (progress state buffer.old) }
-{
-    let mut now = state;
-    for sheet in input.chunks(sheets::SHEET) {
-        now = put_unnamed(rt, pass, steps, sheet, &mut *buffer, now);
-    }
-    now
-}
-
 // The bytes of a sheet's figures.
 fn bytes_for(figures: [u32; sheet::COUNT]) -> [u8; texts::SHEET_BYTES]
     ensures { result ≡ bytes_for figures }
@@ -134,65 +162,6 @@ fn bytes_for(figures: [u32; sheet::COUNT]) -> [u8; texts::SHEET_BYTES]
     let mut bytes = [0u8; texts::SHEET_BYTES];
     texts::put_sheet(figures, &mut bytes, 0);
     bytes
-}
-
-// A sheet that was found in a text behind a place, with its name.
-fn put_named(
-    rt: HostRuntime,
-    pass: Pass,
-    steps: LevelSteps,
-    text: &[u8],
-    from: usize,
-    figures: [u32; sheet::COUNT],
-    buffer: &mut [u8],
-    state: State,
-) -> State
-    ensures { progress result buffer.new ≡ one_put pass steps (name_of text.now from) (bytes_for figures) (progress state buffer.old) }
-{
-    let name = texts::name_after(text, from);
-    let bytes = bytes_for(figures);
-    put_one(
-        rt,
-        pass,
-        steps,
-        &text[name.start..name.end],
-        &bytes,
-        buffer,
-        state,
-    )
-}
-
-// The sheets of a typed text without a fault, with their names.
-fn put_typed(
-    rt: HostRuntime,
-    pass: Pass,
-    steps: LevelSteps,
-    text: &[u8],
-    buffer: &mut [u8],
-    state: State,
-) -> State
-    ensures { progress result buffer.new ≡ all_put pass steps (named_of text.now) (progress state buffer.old) }
-{
-    let mut cursor = texts::begin();
-    let mut now = state;
-    loop {
-        let found = texts::next(text, cursor);
-        if found.event.is_none() {
-            return now;
-        }
-        let after = found.cursor;
-        now = put_named(
-            rt,
-            pass,
-            steps,
-            text,
-            cursor.at,
-            after.figures,
-            &mut *buffer,
-            now,
-        );
-        cursor = after;
-    }
 }
 
 // The head of the route behind the pages.
@@ -226,31 +195,6 @@ fn put_foot(rt: HostRuntime, counts: Counts, buffer: &mut [u8], state: State) ->
     Out { at, ..ready }
 }
 
-// Where the sheets come from: bytes, or a typed text.
-#[derive(Clone, Copy)]
-pub enum Source {
-    Bytes,
-    Typed,
-}
-
-// All sheets of an input.
-fn put_all(
-    rt: HostRuntime,
-    source: Source,
-    pass: Pass,
-    steps: LevelSteps,
-    input: &[u8],
-    buffer: &mut [u8],
-    state: State,
-) -> State
-    ensures { progress result buffer.new ≡ all_put pass steps (items_of source input.now) (progress state buffer.old) }
-{
-    match source {
-        Source::Bytes => put_bytes(rt, pass, steps, input, buffer, state),
-        Source::Typed => put_typed(rt, pass, steps, input, buffer, state),
-    }
-}
-
 // The pages of an input's sheets and of their route, written as the buffer fills but for the last of them.
 fn put_worksheets(
     rt: HostRuntime,
@@ -264,10 +208,19 @@ fn put_worksheets(
     ensures { WorksheetsOut source steps counts input.now buffer.old result buffer.new }
 {
     let first = at_first(Out { at: 0, open: true });
-    let pages = put_all(rt, source, Pass::Pages, steps, input, buffer, first);
+    let putting = Putting {
+        rt,
+        pass: Pass::Pages,
+        steps,
+    };
+    let pages = putting.put_all(source, input, buffer, first);
     let head = put_head(rt, buffer, pages.out);
     let again = at_first(head);
-    let stretches = put_all(rt, source, Pass::Stretches, steps, input, buffer, again);
+    let putting = Putting {
+        pass: Pass::Stretches,
+        ..putting
+    };
+    let stretches = putting.put_all(source, input, buffer, again);
     put_foot(rt, counts, buffer, stretches).rest()
 }
 

@@ -11,7 +11,7 @@ returns c =
     let a = c.args in
     let last = c.print_route in
     rw c.rest.ensures
-    (rest_told (λ (rest : Option ℕ). LinesPrinted a.form a.level a.counts a.buffer.now rest last.new.buffer) last.result
-    (lines_put a.form a.buffer.now c.requires a.level a.counts c.put_levels_line-at.result c.put_levels_line-at.new.buffer
+    (rest_told (λ (rest : Option ℕ). LinesPrinted a.printer.form a.printer.level a.counts a.buffer.now rest last.new.buffer) last.result
+    (lines_put a.printer.form a.buffer.now c.requires a.printer.level a.counts c.put_levels_line-at.result c.put_levels_line-at.new.buffer
     c.in_ok-state.state c.print_all.new.buffer last.result.at last.new.buffer
     c.put_levels_line-at.ensures.0 c.put_levels_line-at.ensures.1 c.in_ok-state.ensures last.ensures) tt)

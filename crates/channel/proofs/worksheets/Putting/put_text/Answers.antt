@@ -1,5 +1,5 @@
 -- By the pass.
-use Rattle.channel.proofs.worksheets.put_text.Goals as goal
+use Rattle.channel.proofs.worksheets.Putting.put_text.Goals as goal
 
 pub returns-in-Pages : goal.returns-in-Pages
 returns-in-Pages c = rw c.in-Pages.is c.put_page.ensures

@@ -1,6 +1,6 @@
 -- A place for the line, what is worked, the route with its answer, its numbers, its line, its verdict counted.
 use Rattle.channel.proofs.Printing.{line_printed}
-use Rattle.channel.proofs.sheets.print_sheet.Goals as goal
+use Rattle.channel.proofs.sheets.Printer.print_sheet.Goals as goal
 
 pub returns : goal.returns
 returns c =

@@ -3,10 +3,10 @@ use mathlib.Core.Path.{refl, ◌∙◌}
 use Rattle.channel.specs.Printing.{progress, at_first}
 use Rattle.channel.proofs.Printing.{printing, begun_at}
 use Rattle.channel.proofs.Taking.{taken_on, taken_whole}
-use Rattle.channel.proofs.sheets.print_all.Goals as goal
+use Rattle.channel.proofs.sheets.Printer.print_all.Goals as goal
 
 pub loop-init : goal.loop-init
-loop-init c = let a = c.args in record { long = refl; read = begun_at a.form a.level c.new.result a.at a.buffer.now c.new.ensures }
+loop-init c = let a = c.args in record { long = refl; read = begun_at a.self.form a.self.level c.new.result a.at a.buffer.now c.new.ensures }
 
 pub loop-preserved : goal.loop-preserved
 loop-preserved c =
@@ -17,7 +17,7 @@ loop-preserved c =
     let long = fill.auto.space ∙ l.invariant.long in record {
       long = long;
       read =
-          taken_on (printing a.form a.level) (at_first a.at a.buffer.now) (progress l.state l.buffer) (progress step.result step.new.buffer) fill.result fill.new.space
+          taken_on (printing a.self.form a.self.level) (at_first a.at a.buffer.now) (progress l.state l.buffer) (progress step.result step.new.buffer) fill.result fill.new.space
           (rw l.invariant.long at fill.ensures) long c.printed_of-count.result c.printed_of-count.ensures step.ensures c.in-Full.is l.invariant.read;
     }
 
@@ -28,5 +28,5 @@ returns-in-Ended c =
     let fill = c.fill-filled in
     let step = c.print_block-state in
     let long = fill.auto.space ∙ l.invariant.long in
-    taken_whole (printing a.form a.level) (at_first a.at a.buffer.now) (progress l.state l.buffer) (progress step.result step.new.buffer) fill.result fill.new.space
+    taken_whole (printing a.self.form a.self.level) (at_first a.at a.buffer.now) (progress l.state l.buffer) (progress step.result step.new.buffer) fill.result fill.new.space
     (rw l.invariant.long at fill.ensures) long c.printed_of-count.result c.printed_of-count.ensures step.ensures c.in-Ended.is l.invariant.read

@@ -1,5 +1,5 @@
 -- By where the sheets come from.
-use Rattle.channel.proofs.worksheets.put_all.Goals as goal
+use Rattle.channel.proofs.worksheets.Putting.put_all.Goals as goal
 
 pub returns-in-Bytes : goal.returns-in-Bytes
 returns-in-Bytes c = rw c.in-Bytes.is c.put_bytes.ensures

@@ -4,7 +4,7 @@ use Rattle.std.specs.Slice.Iter.{chunks_rest}
 use Rattle.channel.specs.Printing.{progress}
 use Rattle.channel.proofs.Printing.{printing}
 use Rattle.channel.proofs.Taking.{sheet_more, no_bytes}
-use Rattle.channel.proofs.sheets.print_block.Goals as goal
+use Rattle.channel.proofs.sheets.Printer.print_block.Goals as goal
 
 pub loop-sheet-preserved : goal.loop-sheet-preserved
 loop-sheet-preserved c =
@@ -13,7 +13,7 @@ loop-sheet-preserved c =
     let step = c.in-Some.ensures.steps in record {
       size = step.0 ∙ l.invariant.size;
       all =
-          sheet_more (printing a.form a.level) (chunks_rest l.sheet-iterator) c.in-Some.sheet.now (chunks_rest c.next.new.self) (progress l.now l.buffer) _
+          sheet_more (printing a.self.form a.self.level) (chunks_rest l.sheet-iterator) c.in-Some.sheet.now (chunks_rest c.next.new.self) (progress l.now l.buffer) _
           step.1.0 (rw l.invariant.size at step.1.1) step.1.2 c.print_sheet-now.ensures
           ∙ l.invariant.all;
     }
@@ -22,4 +22,4 @@ pub returns : goal.returns
 returns c =
     let l = c.loop-sheet in
     let a = c.args in
-    sym (no_bytes (printing a.form a.level) (chunks_rest l.sheet-iterator) (progress l.now l.buffer) c.in-None.ensures.steps.1.0) ∙ l.invariant.all
+    sym (no_bytes (printing a.self.form a.self.level) (chunks_rest l.sheet-iterator) (progress l.now l.buffer) c.in-None.ensures.steps.1.0) ∙ l.invariant.all
