@@ -2,7 +2,7 @@
 #![tactic(auto)]
 
 ghost use Rattle.std.specs.Prelude.{◌≡◌};
-ghost use Rattle.both.specs.Both.{reason_came, came_to, uncounted, same_numbers, verdict_of, not_come, of_stretch, by_level, by_reading, both_of};
+ghost use Rattle.both.specs.Both.{reason_came, came_to, uncounted, verdict_of, not_come, of_stretch, by_level, by_reading, both_of};
 
 use datum::Level;
 use depth::{DepthFault, DepthFigures};

@@ -22,7 +22,6 @@ use Rattle.width.specs.Bends.{bend_of}
 use Rattle.width.specs.Width.{width_of}
 use Rattle.width.specs.declared.Stretch.{Stretch as WidthStretch}
 use Rattle.width.specs.declared.Entries.{Entries}
-use Rattle.width.specs.declared.WidthFault.TheVariants.{BendTooTight, NoWidthEntry}
 use Rattle.speed.specs.Critical.{check_of}
 use Rattle.speed.specs.declared.Section.{Section}
 use Rattle.class.specs.Classes.{classes_of}

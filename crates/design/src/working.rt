@@ -1,5 +1,5 @@
 // What a sheet's level, depth, width and speed are worked from, and the figures they come to (definition, section 8).
-ghost use Rattle.std.specs.Prelude.{◌≡◌, ◌<◌, ◌^◌, pos};
+ghost use Rattle.std.specs.Prelude.{◌≡◌, ◌<◌, ◌^◌};
 ghost use Rattle.design.specs.Design.{level_for, depth_stretch, width_stretch, width_at, speed_section, figures_of};
 
 use crate::Figures;

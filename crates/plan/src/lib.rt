@@ -4,7 +4,6 @@
 ghost use Rattle.std.specs.Prelude.{◌≡◌, ◌++◌, ◌+◌, ◌≤◌, length, take, drop};
 ghost use Rattle.std.specs.Int.{w32};
 ghost use Rattle.std.proofs.Common.{of_z};
-ghost use Rattle.design.specs.Numbers.{code_of};
 ghost use Rattle.plan.specs.Words.{word_bytes, bytes_of_numbers};
 ghost use Rattle.plan.specs.Plan.{needed, plan_number, plan_place};
 

@@ -1,5 +1,5 @@
 // The lines of a text (definition, section 14.1).
-ghost use Rattle.std.specs.Prelude.{◌≡◌, ◌+◌, ◌-◌, ◌≤◌, ◌<◌, min, length, take, drop};
+ghost use Rattle.std.specs.Prelude.{◌≡◌, ◌+◌, ◌-◌, ◌≤◌, min, length, take, drop};
 ghost use Rattle.texts.specs.Cutting.{line_of, bare, blank, passed_over, begins_sheet, next_number};
 
 const NEWLINE: u8 = b'\n';

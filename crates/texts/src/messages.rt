@@ -1,5 +1,5 @@
 // The message of a fault: the line's number, the reason, what stood there and what was expected (definition, section 14.4).
-ghost use Rattle.std.specs.Prelude.{◌≡◌, ◌+◌, ◌≤◌, length, take, map};
+ghost use Rattle.std.specs.Prelude.{◌≡◌, ◌+◌, ◌≤◌, length, map};
 ghost use Rattle.lines.specs.Lines.{Put};
 ghost use Rattle.texts.specs.Messages.{reason_text, shown, quoted_text, stood_text, expected_for, message_text};
 

@@ -1,7 +1,7 @@
 // What a line says in the place of a row: the figure is guessed, put back as the row has it and compared (definition, section 14.2).
-ghost use Rattle.std.specs.Prelude.{◌≡◌, ◌+◌, ◌*◌, ◌-◌, ◌≤◌, ◌<◌, length, drop};
+ghost use Rattle.std.specs.Prelude.{◌≡◌, ◌+◌, ◌*◌, ◌-◌, ◌≤◌, ◌<◌};
 ghost use Rattle.typed.specs.Lines.{name_text};
-ghost use Rattle.typed.specs.Reading.{stands, same, in_number, digit_on, digits_read, below_zero, level_guess, word_stands, word_guess, guessed, entry_by};
+ghost use Rattle.typed.specs.Reading.{stands, in_number, digit_on, digits_read, below_zero, level_guess, word_stands, word_guess, guessed, entry_by};
 
 use crate::table::Row;
 use crate::{EntryFault, Kind, begins_with, printing};

@@ -1,5 +1,5 @@
 // The head of a page and its end: index, name, the line to sign and the bytes (definition, section 15.3).
-ghost use Rattle.std.specs.Prelude.{◌≡◌, map, ◌+◌, ◌*◌, ◌≤◌, ◌<◌, min, length, take};
+ghost use Rattle.std.specs.Prelude.{◌≡◌, map, ◌+◌, ◌*◌, ◌≤◌, ◌<◌, min, length};
 ghost use Rattle.lines.specs.Lines.{Put};
 ghost use Rattle.texts.specs.Messages.{shown};
 ghost use Rattle.worksheet.specs.Framing.{continues, whole_to, name_end, name_text, head_text, hex_digit, hex_byte, hex_text, signature_text, end_text};

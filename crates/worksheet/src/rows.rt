@@ -1,5 +1,5 @@
 // The figures of a sheet in two columns, as they are typed (definition, section 15.4).
-ghost use Rattle.std.specs.Prelude.{◌+◌, ◌≤◌, ◌<◌, ◌-◌, length, ◌≡◌};
+ghost use Rattle.std.specs.Prelude.{◌+◌, ◌≤◌, ◌<◌, ◌-◌, length};
 ghost use Rattle.lines.specs.Lines.{Put};
 ghost use Rattle.worksheet.specs.Rows.{row_text, pair_text, pairs_text, rows_part};
 

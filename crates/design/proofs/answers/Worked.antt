@@ -24,7 +24,6 @@ use Rattle.design.specs.declared.Figures.{Figures}
 use Rattle.design.specs.declared.Reason.TheVariants.{NoShip}
 use Rattle.speed.specs.declared.SpeedFault.{SpeedFault}
 use Rattle.gauge.specs.declared.LevelFault.{LevelFault}
-use Rattle.width.specs.declared.WidthFault.TheVariants.{BendTooTight, NoWidthEntry}
 use Rattle.width.specs.declared.WidthFault.{WidthFault}
 use Rattle.depth.specs.declared.DepthFault.{DepthFault}
 
