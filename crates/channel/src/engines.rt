@@ -3,14 +3,10 @@ ghost use Rattle.std.specs.Prelude.{◌≡◌};
 ghost use Rattle.channel.specs.Text.{with_verdict};
 ghost use Rattle.channel.specs.Printing.{worked_in};
 
-use crate::output;
 use both::{Both, Verdict};
 use datum::Level;
 use gauge::LevelFault;
 use lines::Form;
-
-// The bytes of the message that names a sheet: its words have 50, and its index at most 20.
-const MESSAGE: usize = 70;
 
 // What is worked of a sheet: the worksheet's answer alone, or both engines.
 pub fn worked(form: Form, sheet: &[u8], level: Result<Level, LevelFault>) -> Both
@@ -33,24 +29,9 @@ pub fn with_verdict(agreed: u64, verdict: Verdict) -> u64
     }
 }
 
-// Names a sheet on standard error.
-fn tell_sheet(rt: HostRuntime, index: u64) {
-    let mut message = [0u8; MESSAGE];
-    let named = lines::put_bytes(b"sheet ", &mut message, 0);
-    let numbered = lines::put_decimal(index, &mut message, named);
-    let end = lines::put_bytes(
-        b": the worksheet and the plain engine differ\n",
-        &mut message,
-        numbered,
-    );
-    let _ = output::write_first(&rt.stderr(), &message, end);
-}
-
 // Tells of a sheet on which the two engines differ.
 pub fn tell(rt: HostRuntime, index: u64, verdict: Verdict) {
-    match verdict {
-        Verdict::Differed => tell_sheet(rt, index),
-        Verdict::NotCome => {}
-        Verdict::Agreed => {}
+    if let Verdict::Differed = verdict {
+        let _ = eprintln!(rt; "sheet {index}: the worksheet and the plain engine differ");
     }
 }

@@ -37,7 +37,8 @@ pub struct Filled {
     pub stop: Stop,
 }
 
-// Fills a space from its start.
+// Fills a space from its start. The file, the sheets that are printed and those that are shown are each read by a loop over it: one
+// function over a closure would be longer than the loop, since it would promise what each changes of its table or buffer.
 pub fn fill<R: Read>(reader: &mut R, space: &mut [u8]) -> Filled
     ensures { Filling result (length space.old) }
 {

@@ -23,7 +23,8 @@ pub enum Source {
     Typed,
 }
 
-// What is put of each sheet: its page, or then its line of the route.
+// What is put of each sheet: its page, or then its line of the route. A variant, and no closure, since `WorksheetsOut` names the texts
+// of both.
 #[derive(Clone, Copy)]
 enum Pass {
     Pages,
