@@ -8,6 +8,17 @@ use std::io::{ErrorKind, Read};
 // As many turns as 64 bits hold, so that each loop ends; no input comes in as many parts.
 pub const TURNS: u64 = u64::MAX;
 
+// What a read answered that could give so many bytes at most: what a reader says is not taken on trust.
+fn got_of(answer: io::Result<usize>, most: usize) -> io::Result<usize>
+    ensures { GotWithin result most }
+{
+    let count = answer?;
+    if most < count {
+        return Err(io::Error::from(ErrorKind::InvalidData));
+    }
+    Ok(count)
+}
+
 // One read into what is left of a space, which is some, so that no byte means the end; what the space has stays.
 fn read_some<R: Read>(reader: &mut R, space: &mut [u8], have: usize) -> io::Result<usize>
     requires { have < length space.old }
@@ -15,11 +26,8 @@ fn read_some<R: Read>(reader: &mut R, space: &mut [u8], have: usize) -> io::Resu
     ensures space_unchanged { take have space.new ≡ take have space.old }
 {
     let most = space.len() - have;
-    let count = reader.read(&mut space[have..])?;
-    if most < count {
-        return Err(io::Error::from(ErrorKind::InvalidData));
-    }
-    Ok(count)
+    let answer = reader.read(&mut space[have..]);
+    got_of(answer, most)
 }
 
 // Why no more of a space was filled: it is full, the input ended, or a read failed, by an error, if not by too many turns.

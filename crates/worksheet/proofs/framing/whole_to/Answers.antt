@@ -10,7 +10,7 @@ returns-then-not-continues_letter c =
     let l = c.loop-before in
     let e : l.before - 1 + 1 ≡ l.before = omega arith in
     let here = whole_here c.args.name.now l.before (rw e at (sym c.continues_letter.ensures ∙ c.if-not-continues_letter.true)) in
-    (rw e (sym here ∙ l.invariant), omega arith)
+    (e ∙ sym here ∙ l.invariant, omega arith)
 
 pub loop-before-preserved : goal.loop-before-preserved
 loop-before-preserved c =
