@@ -8,6 +8,7 @@ ghost use Rattle.lines.specs.Decimals.{count_text, number_text};
 ghost use Rattle.lines.specs.Lines.{line_bytes, line_text, plain_text, line_in, levels_line, route_line_in, count_bytes, number_bytes, place_within, buffer_within, place_after, buffer_after, Put};
 
 pub mod fitting;
+mod within;
 mod words;
 
 use design::COUNT;
@@ -92,7 +93,7 @@ pub fn put_decimal(count: u64, buffer: &mut [u8], at: usize) -> usize
     if !fits(buffer.len(), at, COUNT_BYTES) {
         return at;
     }
-    fitting::put_count(count, buffer, at)
+    within::put_count(count, buffer, at)
 }
 
 // Puts a signed number likewise; the same place, and nothing put, where 21 bytes do not fit.
@@ -103,7 +104,7 @@ pub fn put_signed(number: i32, buffer: &mut [u8], at: usize) -> usize
     if !fits(buffer.len(), at, NUMBER_BYTES) {
         return at;
     }
-    fitting::put_signed(number, buffer, at)
+    within::put_signed(number, buffer, at)
 }
 
 // Puts bytes at a place and answers the place after them; the same place, and nothing put, where they do not fit.
@@ -114,7 +115,7 @@ pub fn put_bytes(text: &[u8], buffer: &mut [u8], at: usize) -> usize
     if !fits(buffer.len(), at, text.len()) {
         return at;
     }
-    fitting::put(text, buffer, at)
+    within::put(text, buffer, at)
 }
 
 // Whether so much room is in a buffer of so many bytes from a place on.
@@ -143,7 +144,7 @@ fn put_index_line(
     requires { at + line_bytes ≤ length buffer.old }
     ensures { Put buffer.old at (line_in form index numbers plain) buffer.new result }
 {
-    let first = fitting::put_count(index, buffer, at);
+    let first = within::put_count(index, buffer, at);
     let middle = words::put_numbers(numbers, buffer, first);
     let last = put_plain(form, plain, buffer, middle);
     buffer[last] = NEWLINE;

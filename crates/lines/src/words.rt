@@ -4,7 +4,7 @@ ghost use Rattle.design.specs.Numbers.{number_count};
 ghost use Rattle.lines.specs.Decimals.{count_text, number_text};
 ghost use Rattle.lines.specs.Lines.{spaced, Put};
 
-use crate::fitting;
+use crate::within;
 use design::COUNT;
 
 // A word of a line: its text, and the most bytes of one.
@@ -24,7 +24,7 @@ impl Word for u64 {
     ghost most = { 20 };
 
     fn put(self, buffer: &mut [u8], at: usize) -> usize {
-        fitting::put_count(self, buffer, at)
+        within::put_count(self, buffer, at)
     }
 }
 
@@ -34,7 +34,7 @@ impl Word for i32 {
     ghost most = { 11 };
 
     fn put(self, buffer: &mut [u8], at: usize) -> usize {
-        fitting::put_signed(self, buffer, at)
+        within::put_signed(self, buffer, at)
     }
 }
 

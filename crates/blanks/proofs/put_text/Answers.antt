@@ -13,7 +13,7 @@ loop-byte-preserved-then-byte-ne-BLANK c =
     let step = c.in-Some.ensures.steps in
     let one = ap length step in
     let f = rw step at c.loop-byte.invariant.2 in
-    (omega arith, omega arith, byte_filled f c.if-byte-ne-BLANK.true c.put_byte-end.ensures.0 (omega arith))
+    (omega arith, omega arith, byte_filled f c.if-byte-ne-BLANK.true (c.put_byte-end.ensures.put (omega arith)) (omega arith))
 
 pub returns-in_default-next : goal.returns-in_default-next
 returns-in_default-next c =

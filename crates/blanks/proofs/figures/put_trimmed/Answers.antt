@@ -16,5 +16,6 @@ returns c =
     let word = c.args.word.now in
     let n = c.trimmed_length-bytes.result in
     let first = first_bytes word n c.trimmed_length-bytes.ensures in
-    let p = c.put.ensures in
-    (rw first.1 at p.0, omega (arith, p.1, length-take n word))
+    let short = length-take n word in
+    let p = c.put.ensures.put (omega (arith, short)) in
+    (rw first.1 at p, omega (arith, p.after, short))

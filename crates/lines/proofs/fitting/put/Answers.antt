@@ -1,7 +1,10 @@
--- `lines::fitting::put` meets its contract: the bytes stand in the place of as many of the buffer's.
+-- `lines::fitting::put` meets its contract: where there is room, what is put is the text.
 use native.Mathlib.Omega.{arith}
-use Rattle.lines.proofs.putting.Placing.{put_part}
+use Rattle.lines.proofs.putting.Fitting.{put_within}
 use Rattle.lines.proofs.fitting.put.Goals as goal
 
-pub returns : goal.returns
-returns c = let a = c.args in (rw c.copy_from_slice.ensures.after (put_part a.buffer.now a.at a.text.now), omega arith)
+pub returns-clause-put : goal.returns-clause-put
+returns-clause-put c = λ h. put_within _ _ _ _ h c.put_bytes.ensures
+
+pub returns-clause-bound : goal.returns-clause-bound
+returns-clause-bound c = λ h. let p = put_within _ _ _ _ h c.put_bytes.ensures in omega (arith, p.after)

@@ -1,13 +1,12 @@
--- `lines::put_count` meets its contract: a way out for each length up to four, and one for the others.
+-- `lines::fitting::put_count` meets its contract: where there is room, what is put is the count's text, of 20 bytes at most.
 use native.Mathlib.Omega.{arith}
-use Rattle.lines.proofs.putting.Counting.{two_stand, three_stand, four_stand}
+use Rattle.lines.proofs.putting.Counting.{count_at_most}
+use Rattle.lines.proofs.putting.Fitting.{put_within}
 use Rattle.lines.proofs.fitting.put_count.Goals as goal
 
-pub returns-then-count-lt100 : goal.returns-then-count-lt100
-returns-then-count-lt100 c = (rw (c.digit.ensures, c.digit-then-count-lt100.ensures) (two_stand c.if-count-lt10.false c.if-count-lt100.true (omega arith)), omega arith)
+pub returns-clause-put : goal.returns-clause-put
+returns-clause-put c = λ h. put_within _ _ _ _ h c.put_decimal.ensures
 
-pub returns-then-count-lt1000 : goal.returns-then-count-lt1000
-returns-then-count-lt1000 c = (rw (c.digit-then-count-lt1000.ensures, c.digit-then-count-lt1000-2.ensures, c.digit-then-count-lt1000-3.ensures) (three_stand c.if-count-lt100.false c.if-count-lt1000.true (omega arith)), omega arith)
-
-pub returns-then-count-lt10000 : goal.returns-then-count-lt10000
-returns-then-count-lt10000 c = (rw (c.digit-then-count-lt10000.ensures, c.digit-then-count-lt10000-2.ensures, c.digit-then-count-lt10000-3.ensures, c.digit-then-count-lt10000-4.ensures) (four_stand c.if-count-lt1000.false c.if-count-lt10000.true (omega arith)), omega arith)
+pub returns-clause-bound : goal.returns-clause-bound
+returns-clause-bound c =
+    λ h. let p = put_within _ _ _ _ h c.put_decimal.ensures in omega (arith, p.after, count_at_most 19 c.args.count (omega (arith, c.ranges.count.fits)))

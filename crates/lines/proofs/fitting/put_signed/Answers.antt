@@ -1,16 +1,14 @@
--- `lines::fitting::put_signed` meets its contract: a way out for each sign, and one for a single digit.
-use Rattle.lines.proofs.putting.Signs.{put_negative, put_plain}
+-- `lines::fitting::put_signed` meets its contract: where there is room, what is put is the number's text, of 11 bytes at most.
 use native.Mathlib.Omega.{arith}
+use mir.Facts.{to_z-of_z}
+use Rattle.lines.proofs.putting.Fitting.{put_within}
+use Rattle.lines.proofs.putting.Signs.{number_at_most}
 use Rattle.lines.proofs.fitting.put_signed.Goals as goal
 
-pub returns-then-number-lt0 : goal.returns-then-number-lt0
-returns-then-number-lt0 c =
-    put_negative c.ranges.number c.unsigned_abs.ensures.value c.if-number-lt0.true c.put_count.ensures.0 (omega arith)
+pub returns-clause-put : goal.returns-clause-put
+returns-clause-put c = λ h. put_within _ _ _ _ h (rw (to_z-of_z c.ranges.number) at c.put_signed.ensures)
 
-pub returns-then-count-lt10 : goal.returns-then-count-lt10
-returns-then-count-lt10 c =
-    put_plain c.ranges.number c.unsigned_abs-count.ensures.value c.if-number-lt0.false c.put_digit.ensures.0
-
-pub returns : goal.returns
-returns c =
-    put_plain c.ranges.number c.unsigned_abs-count.ensures.value c.if-number-lt0.false c.put_count-2.ensures.0
+pub returns-clause-bound : goal.returns-clause-bound
+returns-clause-bound c =
+    λ h. let p = put_within _ _ _ _ h (rw (to_z-of_z c.ranges.number) at c.put_signed.ensures) in
+    omega (arith, p.after, number_at_most c.args.number c.ranges.number)

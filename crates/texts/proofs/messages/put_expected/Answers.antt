@@ -22,7 +22,7 @@ of_row OutOfRange row h = refl
 of_row Disagrees row h = refl
 
 pub returns-in-NoSheet : goal.returns-in-NoSheet
-returns-in-NoSheet c = rw c.in-NoSheet.is (c.put.ensures.0, omega arith)
+returns-in-NoSheet c = rw c.in-NoSheet.is ((c.put.ensures.put (omega arith)), omega arith)
 
 pub returns : goal.returns
 returns c =

@@ -11,12 +11,12 @@ pub returns-then-line-le-SEEN : goal.returns-then-line-le-SEEN
 unfolding quoted_text
 returns-then-line-le-SEEN c =
     let few : length (take c.min.result c.args.line.now) ≤ seen = omega (arith, length-take c.min.result c.args.line.now) in
-    let quoted = put_on (put_on c.put-first.ensures.0 (rw c.min.ensures at c.put_seen-last.ensures.0) (omega arith)) c.put-end.ensures.0 (omega arith) in
+    let quoted = put_on (put_on (c.put-first.ensures.put (omega arith)) (rw c.min.ensures at c.put_seen-last.ensures.0) (omega arith)) (c.put-end.ensures.put (omega arith)) (omega arith) in
     (rw (le-leb _ seen c.if-line-le-SEEN.true) quoted, omega arith)
 
 pub returns : goal.returns
 unfolding quoted_text
 returns c =
     let few : length (take c.min.result c.args.line.now) ≤ seen = omega (arith, length-take c.min.result c.args.line.now) in
-    let quoted = put_on (put_on c.put-first.ensures.0 (rw c.min.ensures at c.put_seen-last.ensures.0) (omega arith)) c.put-end.ensures.0 (omega arith) in
-    (rw (lt-leb _ seen c.if-line-le-SEEN.false) (put_on quoted c.put.ensures.0 (omega arith)), omega arith)
+    let quoted = put_on (put_on (c.put-first.ensures.put (omega arith)) (rw c.min.ensures at c.put_seen-last.ensures.0) (omega arith)) (c.put-end.ensures.put (omega arith)) (omega arith) in
+    (rw (lt-leb _ seen c.if-line-le-SEEN.false) (put_on quoted (c.put.ensures.put (omega arith)) (omega arith)), omega arith)

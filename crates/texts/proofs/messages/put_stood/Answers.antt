@@ -6,7 +6,7 @@ use Rattle.texts.proofs.messages.put_stood.Goals as goal
 
 pub returns-then-place : goal.returns-then-place
 unfolding stood_text
-returns-then-place c = rw c.if-place.true (c.put.ensures.0, omega arith)
+returns-then-place c = rw c.if-place.true ((c.put.ensures.put (omega arith)), omega arith)
 
 pub returns : goal.returns
 unfolding stood_text

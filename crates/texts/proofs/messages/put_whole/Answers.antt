@@ -4,13 +4,10 @@ use Rattle.lines.proofs.putting.Placing.{put_on}
 use Rattle.texts.specs.Messages.{message_text}
 use Rattle.texts.proofs.messages.put_whole.Goals as goal
 
-pub put-requires : goal.put-requires
-put-requires c = omega (arith, c.requires, c.put-number.ensures.1)
-
 pub returns : goal.returns
 unfolding message_text
 returns c =
     let enough = c.requires in
-    let number = c.put-number.ensures.1 in
-    let front = put_on (put_on (put_on c.put-number.ensures.0 c.put_count-reason.ensures.0 (omega arith)) c.put_reason-stood.ensures.0 (omega arith)) c.put_stood-then.ensures.0 (omega arith) in
-    put_on (put_on (put_on front c.put-expected.ensures.0 (omega arith)) c.put_expected-end.ensures.0 (omega arith)) c.put.ensures.0 (omega arith)
+    let number = c.put-number.ensures.bound (omega arith) in
+    let front = put_on (put_on (put_on (c.put-number.ensures.put (omega arith)) (c.put_count-reason.ensures.put (omega arith)) (omega arith)) c.put_reason-stood.ensures.0 (omega arith)) c.put_stood-then.ensures.0 (omega arith) in
+    put_on (put_on (put_on front (c.put-expected.ensures.put (omega arith)) (omega arith)) c.put_expected-end.ensures.0 (omega arith)) (c.put.ensures.put (omega arith)) (omega arith)

@@ -19,6 +19,6 @@ unfolding form_row
 returns c =
     let expected = expected_stands _ _ _ c.put_expected-second.ensures (omega arith) in
     let blank = blank_stands _ _ _ c.put_blank-end.ensures (omega arith) in (
-      put_on (put_on (put_on (put_on c.put-first.ensures.0 expected.0 (omega arith)) c.put-third.ensures.0 (omega arith)) blank.0 (omega arith)) c.put.ensures.0 (omega arith),
+      put_on (put_on (put_on (put_on (c.put-first.ensures.put (omega arith)) expected.0 (omega arith)) (c.put-third.ensures.put (omega arith)) (omega arith)) blank.0 (omega arith)) (c.put.ensures.put (omega arith)) (omega arith),
       omega arith,
     )

@@ -18,4 +18,4 @@ loop-i-preserved c =
 
 pub returns : goal.returns
 unfolding form_rows form_text
-returns c = put_on c.put-end.ensures.0 (all_rowed c.loop-i.invariant.1 (omega arith) refl) (omega arith)
+returns c = put_on (c.put-end.ensures.put (omega arith)) (all_rowed c.loop-i.invariant.1 (omega arith) refl) (omega arith)

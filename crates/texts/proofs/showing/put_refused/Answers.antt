@@ -7,8 +7,8 @@ use Rattle.texts.proofs.showing.put_refused.Goals as goal
 pub returns : goal.returns
 unfolding refused_text
 returns c =
-    let number = rw c.number.ensures at c.put_count-space.ensures.0 in
-    let field = rw c.field.ensures at c.put_count-end.ensures.0 in
+    let number = rw c.number.ensures at (c.put_count-space.ensures.put (omega arith)) in
+    let field = rw c.field.ensures at (c.put_count-end.ensures.put (omega arith)) in
     put_on
-    (put_on (put_on (put_on c.put-number.ensures.0 number (omega arith)) c.put-field.ensures.0 (omega arith)) field (omega arith))
-    c.put.ensures.0 (omega arith)
+    (put_on (put_on (put_on (c.put-number.ensures.put (omega arith)) number (omega arith)) (c.put-field.ensures.put (omega arith)) (omega arith)) field (omega arith))
+    (c.put.ensures.put (omega arith)) (omega arith)

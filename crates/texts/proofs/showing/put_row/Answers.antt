@@ -12,4 +12,4 @@ pub returns : goal.returns
 unfolding row_line
 returns c =
     let line = line_stands _ _ _ _ c.put_line-end.ensures (omega arith) (omega arith) (omega arith) in
-    (put_on line.0 c.put.ensures.0 (omega arith), omega arith)
+    (put_on line.0 (c.put.ensures.put (omega arith)) (omega arith), omega arith)

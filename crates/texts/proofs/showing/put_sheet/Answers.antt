@@ -8,4 +8,4 @@ pub returns : goal.returns
 unfolding shown_text
 returns c =
     let rows = rw c.read.ensures at c.put_read.ensures in
-    put_on (put_on (put_on c.put-first.ensures.0 c.put_count-end.ensures.0 (omega arith)) c.put-rows.ensures.0 (omega arith)) rows (omega arith)
+    put_on (put_on (put_on (c.put-first.ensures.put (omega arith)) (c.put_count-end.ensures.put (omega arith)) (omega arith)) (c.put-rows.ensures.put (omega arith)) (omega arith)) rows (omega arith)

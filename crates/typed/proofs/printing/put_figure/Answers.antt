@@ -6,8 +6,8 @@ use Rattle.typed.proofs.printing.put_figure.Goals as goal
 pub returns-in-Whole : goal.returns-in-Whole
 returns-in-Whole c =
     let a = c.args in
-    let p = c.put_count.ensures in
-    (rw (figure_by_lem a.row a.figure c.in-Whole.is) p.0, omega arith)
+    let p = c.put_count.ensures.put (omega arith) in
+    (rw (figure_by_lem a.row a.figure c.in-Whole.is) p, omega arith)
 
 pub returns-in-Tenths : goal.returns-in-Tenths
 returns-in-Tenths c =

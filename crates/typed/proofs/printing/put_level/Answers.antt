@@ -7,7 +7,7 @@ use Rattle.typed.proofs.printing.put_level.Goals as goal
 
 pub returns-then-figure-eq0 : goal.returns-then-figure-eq0
 returns-then-figure-eq0 c =
-    let p = c.put.ensures.0 in
+    let p = c.put.ensures.put (omega arith) in
     (rw (level_record _ c.if-figure-eq0.true) p, omega arith)
 
 pub shape_of-buffer-then-figure-lt-LEVEL_ZERO : goal.shape_of-buffer-then-figure-lt-LEVEL_ZERO
@@ -17,13 +17,15 @@ shape_of-buffer-then-figure-lt-LEVEL_ZERO c =
 
 pub returns-then-figure-lt-LEVEL_ZERO : goal.returns-then-figure-lt-LEVEL_ZERO
 returns-then-figure-lt-LEVEL_ZERO c =
-    let q = c.put-sign.ensures.0 in
-    let p = c.put_count.ensures in
+    let q = c.put-sign.ensures.put (omega arith) in
+    let long = length-set c.put-sign.new.buffer c.put-sign.result 45 in
+    let p = c.put_count.ensures.put (omega (arith, long)) in
+    let last = c.put_count.ensures.bound (omega (arith, long)) in
     let text = level_below _ c.if-figure-eq0.false c.if-figure-lt-LEVEL_ZERO.true in
-    (rw text (put_on q (byte_then p.0 (omega arith)) (omega arith)), omega arith)
+    (rw text (put_on q (byte_then p (omega arith)) (omega arith)), omega (arith, last))
 
 pub returns : goal.returns
 returns c =
-    let q = c.put-sign.ensures.0 in
-    let p = c.put_count-2.ensures in
-    (rw (level_above _ c.if-figure-lt-LEVEL_ZERO.false) (put_on q p.0 (omega arith)), omega arith)
+    let q = c.put-sign.ensures.put (omega arith) in
+    let p = c.put_count-2.ensures.put (omega arith) in
+    (rw (level_above _ c.if-figure-lt-LEVEL_ZERO.false) (put_on q p (omega arith)), omega arith)

@@ -13,7 +13,7 @@ pub returns-in-Level : goal.returns-in-Level
 returns-in-Level c =
     let a = c.args in
     rw (lines_by_lem a.row a.values c.in-Level.is)
-    (put_on (put_on c.put_row-record.ensures.0 c.put-given.ensures.0 (omega arith)) c.put_span.ensures (omega arith))
+    (put_on (put_on c.put_row-record.ensures.0 (c.put-given.ensures.put (omega arith)) (omega arith)) c.put_span.ensures (omega arith))
 
 pub returns-in_default : goal.returns-in_default
 returns-in_default c =

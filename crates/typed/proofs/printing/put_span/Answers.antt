@@ -8,4 +8,4 @@ pub returns : goal.returns
 unfolding span_text
 returns c =
     let line = c.put_row-first.ensures.0 in
-    put_on (put_on line c.put-second.ensures.0 (omega arith)) c.put_row.ensures.0 (omega arith)
+    put_on (put_on line (c.put-second.ensures.put (omega arith)) (omega arith)) c.put_row.ensures.0 (omega arith)

@@ -6,8 +6,8 @@ use Rattle.typed.proofs.printing.put_tenths.Goals as goal
 
 pub returns : goal.returns
 returns c =
-    let p = c.put_count-point.ensures in
-    (tenths_stand _ p.0 (omega arith), omega arith)
+    let p = c.put_count-point.ensures.put (omega arith) in
+    (tenths_stand _ p (omega arith), omega arith)
 
 pub bounds-buffer-point-2 : goal.bounds-buffer-point-2
 bounds-buffer-point-2 c = simp length-set (omega arith)

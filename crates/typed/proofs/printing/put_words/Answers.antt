@@ -15,7 +15,7 @@ loop-j-preserved c =
     let l = c.loop-j in (
       omega arith,
       omega arith,
-      one_worded l.invariant.2 (omega arith) c.if-row-j-eq-SPACE.false c.put-end.ensures.0 c.put_row-end.ensures.0 (omega arith) (omega arith),
+      one_worded l.invariant.2 (omega arith) c.if-row-j-eq-SPACE.false (c.put-end.ensures.put (omega arith)) c.put_row-end.ensures.0 (omega arith) (omega arith),
     )
 
 pub returns : goal.returns

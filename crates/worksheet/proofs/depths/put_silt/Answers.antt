@@ -7,4 +7,4 @@ use Rattle.worksheet.proofs.depths.put_silt.Goals as goal
 
 pub returns-then-tried-lt-ENDLESS : goal.returns-then-tried-lt-ENDLESS
 unfolding silt_line
-returns-then-tried-lt-ENDLESS c = rw (lt-ltb _ _ c.if-tried-lt-ENDLESS.true) (put_on c.put_numbers-end.ensures.0 c.put.ensures.0 (omega (arith, c.requires, c.put_numbers-end.ensures.1)), omega (arith, c.put_numbers-end.ensures.1, c.put.ensures.1))
+returns-then-tried-lt-ENDLESS c = rw (lt-ltb _ _ c.if-tried-lt-ENDLESS.true) (put_on c.put_numbers-end.ensures.0 (c.put.ensures.put (omega (arith, c.requires, c.put_numbers-end.ensures.1))) (omega (arith, c.requires, c.put_numbers-end.ensures.1)), omega (arith, c.put_numbers-end.ensures.1, (c.put.ensures.bound (omega (arith, c.requires, c.put_numbers-end.ensures.1)))))

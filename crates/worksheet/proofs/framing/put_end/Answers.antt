@@ -10,4 +10,4 @@ unfolding end_text
 returns c =
     let sized = length-take c.min-shown.result c.args.bytes.now in
     let digits = rw c.min-shown.ensures at c.put_hex-last.ensures.0 in
-    (put_on (put_on (put_on c.put_signature-line.ensures.0 c.put-hex.ensures.0 (omega arith)) digits (omega arith)) c.put.ensures.0 (omega arith), omega arith)
+    (put_on (put_on (put_on c.put_signature-line.ensures.0 (c.put-hex.ensures.put (omega arith)) (omega arith)) digits (omega arith)) (c.put.ensures.put (omega arith)) (omega arith), omega arith)

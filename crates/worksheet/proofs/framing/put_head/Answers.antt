@@ -8,4 +8,4 @@ pub returns : goal.returns
 unfolding head_text
 returns c =
     let title = c.put-title.ensures.0 in
-    (put_on (put_on title c.put_name-named.ensures.0 (omega arith)) c.put.ensures.0 (omega arith), omega arith)
+    (put_on (put_on title c.put_name-named.ensures.0 (omega arith)) (c.put.ensures.put (omega arith)) (omega arith), omega arith)

@@ -24,4 +24,4 @@ returns c =
     let visible = rw c.name_end-end.ensures.0 at c.put_visible.ensures.0 in
     let name = c.args.name.now in
     let short = length-take-le (name_end name) name (omega arith) in
-    rw (sym c.is_empty.ensures ∙ c.if-is_empty.false) (put_on c.put-from.ensures.0 visible (omega arith), omega (arith, short, length-map (take (name_end name) name) shown))
+    rw (sym c.is_empty.ensures ∙ c.if-is_empty.false) (put_on (c.put-from.ensures.put (omega arith)) visible (omega arith), omega (arith, short, length-map (take (name_end name) name) shown))

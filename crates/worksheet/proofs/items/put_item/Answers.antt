@@ -8,4 +8,4 @@ pub returns : goal.returns
 unfolding item_line
 returns c =
     let figures = rw c.from.ensures at c.put_worded.ensures.0 in
-    (put_on c.put-middle.ensures.0 figures (omega arith), omega arith)
+    (put_on (c.put-middle.ensures.put (omega arith)) figures (omega arith), omega arith)

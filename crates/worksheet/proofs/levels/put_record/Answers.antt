@@ -6,4 +6,4 @@ use Rattle.worksheet.proofs.levels.put_record.Goals as goal
 
 pub returns : goal.returns
 unfolding record_part
-returns c = (put_on c.put-head.ensures.0 c.put_steps.ensures.0 (omega (arith, c.requires, c.put-head.ensures.1)), omega (arith, c.put-head.ensures.1, c.put_steps.ensures.1))
+returns c = (put_on (c.put-head.ensures.put (omega arith)) c.put_steps.ensures.0 (omega (arith, c.requires, (c.put-head.ensures.bound (omega arith)))), omega (arith, (c.put-head.ensures.bound (omega arith)), c.put_steps.ensures.1))

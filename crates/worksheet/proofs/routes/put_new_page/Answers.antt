@@ -15,4 +15,4 @@ returns-then-index-ne0 c = rw (le-ltb _ _ c.if-index-lt2.false, ne_eqb _ _ c.if-
 
 pub returns : goal.returns
 unfolding new_page
-returns c = rw (le-ltb _ _ c.if-index-lt2.false, eq-eqb _ _ c.if-index-ne0.false) (put_on c.put-feed.ensures.0 c.put_head.ensures.0 (omega arith), omega arith)
+returns c = rw (le-ltb _ _ c.if-index-lt2.false, eq-eqb _ _ c.if-index-ne0.false) (put_on (c.put-feed.ensures.put (omega arith)) c.put_head.ensures.0 (omega arith), omega arith)

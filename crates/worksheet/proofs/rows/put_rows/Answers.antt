@@ -6,4 +6,4 @@ use Rattle.worksheet.proofs.rows.put_rows.Goals as goal
 
 pub returns : goal.returns
 unfolding rows_part
-returns c = let enough = c.requires in let pairs_end = c.put_pairs-last.ensures.1 in let last = c.put.ensures.1 in (put_on c.put_pairs-last.ensures.0 c.put.ensures.0 (omega arith), omega arith)
+returns c = let enough = c.requires in let pairs_end = c.put_pairs-last.ensures.1 in let last = c.put.ensures.bound (omega arith) in (put_on c.put_pairs-last.ensures.0 (c.put.ensures.put (omega arith)) (omega arith), omega arith)

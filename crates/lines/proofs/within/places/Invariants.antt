@@ -3,7 +3,7 @@ use Prim.Native.Nat.{◌+◌, ◌≤◌}
 use mathlib.Core.Path.{◌≡◌}
 use lib.ListN.{length}
 use Rattle.lines.specs.Decimals.{digits}
-use Rattle.lines.proofs.fitting.places.Given as goal
+use Rattle.lines.proofs.within.places.Given as goal
 
 abbrev pub invariant-loop-rest : goal.invariant-loop-rest
 invariant-loop-rest l = (length (digits l.count) ≡ l.places + length (digits l.rest)) × (length (digits l.count) ≤ 20)

@@ -2,7 +2,7 @@
 use native.Mathlib.Omega.{arith}
 use Rattle.lines.proofs.putting.Counting.{count_one}
 use Rattle.lines.proofs.putting.Placing.{put_byte}
-use Rattle.lines.proofs.fitting.put_digit.Goals as goal
+use Rattle.lines.proofs.within.put_digit.Goals as goal
 
 pub returns : goal.returns
 returns c = (rw (c.digit.ensures, count_one c.args.count c.requires.0) (put_byte c.requires.1), omega arith)

@@ -1,7 +1,7 @@
 -- `lines::places` meets its contract. The loop's invariant: the count has the places passed and those of what is left.
 use native.Mathlib.Omega.{arith}
 use Rattle.lines.proofs.decimals.Digits.{places_one, places_two, places_three, places_four, places_four_more, places_at_most}
-use Rattle.lines.proofs.fitting.places.Goals as goal
+use Rattle.lines.proofs.within.places.Goals as goal
 
 pub loop-rest-init : goal.loop-rest-init
 loop-rest-init c = (omega arith, places_at_most 19 c.args.count (omega arith))

@@ -1,10 +1,10 @@
--- `lines::fitting::put_long_count` meets its contract. The loop's invariant: the digits from place on stand, and what is left of the count is still to be put.
+-- `lines::within::put_long_count` meets its contract. The loop's invariant: the digits from place on stand, and what is left of the count is still to be put.
 use Rattle.std.proofs.Common.{refl}
 use native.Mathlib.Omega.{arith}
 use lib.ListN.{length-set}
 use Rattle.lines.proofs.decimals.Digits.{places_at_most, one_place, more_places}
 use Rattle.lines.proofs.putting.Counting.{none_stands, one_more_stands, all_stands}
-use Rattle.lines.proofs.fitting.put_long_count.Goals as goal
+use Rattle.lines.proofs.within.put_long_count.Goals as goal
 
 pub overflow_add-end : goal.overflow_add-end
 overflow_add-end c = omega (arith, places_at_most 19 c.args.count (omega arith))
