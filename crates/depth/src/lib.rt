@@ -62,7 +62,7 @@ pub enum DepthFault {
     CutOver,
 }
 
-// What a try comes to: the worksheet stays in its column, or moves to the one its figure falls in, or cannot use the column.
+// What a try of a column that can be used comes to: the worksheet stays in it, or moves to the one its figure falls in.
 #[derive(Clone, Copy)]
 pub enum Finding {
     Stays,
@@ -165,7 +165,8 @@ pub fn squat_of(lanes: Lanes, column: Column, speed: u8) -> u16
     if !(2..=12).contains(&speed) {
         return NONE;
     }
-    SQUAT[column as usize][lanes as usize][speed as usize - 2]
+    let row = SQUAT[column as usize][lanes as usize];
+    row[speed as usize - 2]
 }
 
 // The greatest speed with an entry in a column.
