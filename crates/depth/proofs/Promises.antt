@@ -1,11 +1,11 @@
 -- What the depth promises, in the definition's order. Each proof cites the one that does the work.
-use Rattle.std.specs.Prelude.{Result, Ok, Err}
+use Rattle.std.specs.Prelude.{Result, Ok, Err, min}
 use mathlib.Core.Path.{◌≡◌, refl, ap, ◌∙◌, subst}
 use mathlib.Core.Logic.{◌↔◌}
 use mathlib.Core.List.{List, map}
 use Prim.Native.Nat.{ℕ, ◌+◌, ◌-◌, ◌*◌, ◌^◌, ◌≤◌, ◌<◌}
 use native.Mathlib.Omega.{arith}
-use lib.ListN.{length, get_or}
+use lib.ListN.{length, get_or, take}
 use Rattle.laws.specs.Rounding.{up}
 use Rattle.laws.specs.Extremes.{Least}
 use Rattle.laws.specs.Rows.{Exactly}
@@ -211,6 +211,12 @@ one_finding t = one_answer
 
 pub one_worksheet : (q : Stretch) (r s : Worksheet) → r ≡ worksheet_of q → s ≡ worksheet_of q → r ≡ s
 one_worksheet q = one_answer
+
+pub last_unique : (w : Worksheet) (r s : Try) → r ≡ get_or w.tries (min w.count 3 - 1) blank_try → s ≡ get_or w.tries (min w.count 3 - 1) blank_try → r ≡ s
+last_unique w = one_answer
+
+pub tries_unique : (w : Worksheet) (r s : List Try) → r ≡ take w.count w.tries → s ≡ take w.count w.tries → r ≡ s
+tries_unique w = one_answer
 
 pub one_depth : (q : Stretch) (r s : Result DepthFigures DepthFault) → r ≡ work_depth q → s ≡ work_depth q → r ≡ s
 one_depth q = one_answer

@@ -266,6 +266,15 @@ section_unique sheet level width cut = one_answer
 pub code_unique : (design : Result Figures Reason) (r s : ℕ) → r ≡ code_of design → s ≡ code_of design → r ≡ s
 code_unique design = one_answer
 
+pub reason_unique : {Fault : Type 0} (of_room : Fault → Reason) (fault : Fault) (r s : Reason) → r ≡ of_room fault → s ≡ of_room fault → r ≡ s
+reason_unique of_room fault = one_answer
+
+pub reason_number_unique : (reason : Reason) (r s : ℕ) → r ≡ reason_number reason → s ≡ reason_number reason → r ≡ s
+reason_number_unique reason = one_answer
+
+pub reason_field_unique : (reason : Reason) (r s : ℕ) → r ≡ reason_field reason → s ≡ reason_field reason → r ≡ s
+reason_field_unique reason = one_answer
+
 pub numbers_unique : (design : Result Figures Reason) (r s : List ℤ) → r ≡ numbers_of design → s ≡ numbers_of design → r ≡ s
 numbers_unique design = one_answer
 

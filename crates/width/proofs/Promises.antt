@@ -11,7 +11,8 @@ use Rattle.datum.specs.declared.CrossCurrent.{CrossCurrent}
 use Rattle.lanes.specs.Lanes.{lane_count}
 use Rattle.lanes.specs.declared.Lanes.{Lanes}
 use Rattle.lanes.specs.declared.Lanes.TheVariants.{One, Two}
-use Rattle.width.specs.Bands.{entries_of}
+use Rattle.width.specs.declared.Water.{Water}
+use Rattle.width.specs.Bands.{water_of, entries_of}
 use Rattle.width.specs.Width.{items_of, lane_and_added, tenths_of, width_of, width_figure}
 use Rattle.width.specs.Bends.{least_lengths, least_radius, bend_of, widening_figure}
 use Rattle.width.specs.Refusals.{width_fault_number, bend_number, entries_number, bend_rows, entries_rows}
@@ -99,6 +100,9 @@ starred = computed
 pub entries_unique : (water speed : ℕ) (cross : CrossCurrent) (wave : ℕ) (r t : Result Entries WidthFault)
     → r ≡ entries_of water speed cross wave → t ≡ entries_of water speed cross wave → r ≡ t
 entries_unique water speed cross wave = one_answer
+
+pub water_unique : (water : ℕ) (r t : Water) → r ≡ water_of water → t ≡ water_of water → r ≡ t
+water_unique water = one_answer
 
 pub items_unique : (s : Stretch) (e : Entries) (r t : Items) → r ≡ items_of s e → t ≡ items_of s e → r ≡ t
 items_unique s e = one_answer
