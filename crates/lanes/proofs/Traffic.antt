@@ -19,7 +19,7 @@ module _ (channel ships knots : ℕ) where
       go true p e = ltb-true _ _ p
       go false p e = never cc
 
-  under_limit : channel * ships < 4444800 * knots → One ≡ by_traffic channel ships knots
+  pub under_limit : channel * ships < 4444800 * knots → One ≡ by_traffic channel ships knots
   unfolding by_traffic
   under_limit h = rw (lt-ltb (channel * ships) (4444800 * knots) h)
 
