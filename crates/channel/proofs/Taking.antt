@@ -45,20 +45,18 @@ module _ {S : Type 0} (t : Putting S) where
       ∙ ap (λ (sheets : List (List ℕ)). t.put sheets p) (sym (first_cut rest sheet behind parts long some))
 
   -- one block more
-  pub count_taken : (p q : S) (space : List ℕ) (m n : ℕ) → q ≡ put_of (take m space) p → m ≡ n → q ≡ put_of (take n space) p
-  count_taken p q space m n e count = e ∙ ap (λ (k : ℕ). put_of (take k space) p) count
-
   module _ (p : S) where
     pub begun : SoFar input_block (λ (bytes : List ℕ). p ≡ put_of bytes p)
     begun = none_yet input_block (λ (bytes : List ℕ). p ≡ put_of bytes p) (sym (no_bytes [] p refl))
 
     module _ (q r : S) (filled : Filled) (space : List ℕ) (filling : Filling filled input_block) (as_long : length space ≡ input_block)
-        (count : ℕ) (c : count ≡ printed_count filled) (e : r ≡ put_of (take count space) q) where
+        (e : r ≡ put_of (take (printed_count filled) space) q) where
       block_behind : printed_count filled ≡ filled.count → (bytes : List ℕ) (n : ℕ) → length bytes ≡ n * input_block → q ≡ put_of bytes p
           → r ≡ put_of (bytes ++ take filled.count space) p
       block_behind all bytes n whole so_far =
           let these = take filled.count space in
-          count_taken q r space count filled.count e (c ∙ all)
+          e
+          ∙ ap (λ (k : ℕ). put_of (take k space) q) all
           ∙ ap (put_of these) so_far
           ∙ sym (t.in_turn_lem (sheets_of bytes) (sheets_of these) p)
           ∙ ap (λ (sheets : List (List ℕ)). t.put sheets p) (sym (in_two (n * 2340) bytes these (omega arith)))

@@ -1,12 +1,13 @@
 -- Bytes shown as text (section 14.5): the text of each sheet with its index, what the program's own steps come to, and the whole text.
-use Rattle.std.specs.Prelude.{◌≡◌, ℕ, take, Option, Some, None}
+use Rattle.std.specs.Prelude.{◌≡◌, ℕ, length, take, Option, Some, None}
 use mathlib.Core.List.{List, [], ◌∷◌, ◌++◌, flatten}
 use Rattle.record.specs.Counting.{one_more}
 use Rattle.texts.specs.Shown.{shown_bytes, shown_text}
-use Rattle.channel.specs.Input.{ToItsEnd}
+use Rattle.channel.specs.Input.{Filling, ToItsEnd}
 use Rattle.channel.specs.Output.{Lines, with_lines, written}
 use Rattle.channel.specs.Text.{sheets_of}
-use Rattle.channel.specs.Printing.{input_block}
+use Rattle.channel.specs.Printing.{input_block, printed_count}
+use Rattle.channel.specs.declared.input.Filled.{Filled}
 use Rattle.channel.specs.declared.showing.State.{State}
 
 -- the index of the last sheet, once some more have come
@@ -43,6 +44,11 @@ at_first buffer = record { index = 0; lines = record { at = 0; buffer = buffer }
 -- sheets more: the text of each stands behind those before it
 unfoldable pub sheets_shown : List (List ℕ) → Progress → Progress
 sheets_shown sheets p = record { index = index_after p.index sheets; lines = with_lines shown_bytes (shown_texts p.index sheets) p.lines }
+
+-- one block more, where its read failed too
+pub record BlockShown (p q : Progress) (filled : Filled) (space : List ℕ) : Type 0 where
+  pub filling : Filling filled (length space)
+  pub sheets_shown_is : q ≡ sheets_shown (sheets_of (take (printed_count filled) space)) p
 
 -- the sheets of an input's bytes
 abbrev pub InputShown : Progress → Progress → List ℕ → Type 0

@@ -1,7 +1,7 @@
 // Sheets from standard input, each with its line.
 ghost use Rattle.std.specs.Prelude.{◌≡◌, [], ◌∷◌};
 ghost use Rattle.channel.specs.Text.{sheets_of};
-ghost use Rattle.channel.specs.Printing.{progress, sheets_printed, printed_count, AllPrinted, RoutePrinted};
+ghost use Rattle.channel.specs.Printing.{progress, sheets_printed, printed_count, BlockPrinted, AllPrinted, RoutePrinted};
 
 use crate::input::{Filled, Stop};
 use crate::output::Out;
@@ -80,6 +80,16 @@ impl Printer {
         now
     }
 
+    // The lines of one block of the input, full or to its end; where its read failed, those of the whole sheets before.
+    fn print_some(self, space: &mut [u8], buffer: &mut [u8], state: &mut State) -> Filled
+        ensures { BlockPrinted self.form self.level (progress state.old buffer.old) (progress state.new buffer.new) result space.new }
+    {
+        let filled = input::fill(&mut self.rt.stdin(), space);
+        let count = printed_of(filled);
+        *state = self.print_block(&space[..count], buffer, *state);
+        filled
+    }
+
     // Every sheet of standard input, from a place of the buffer on, each block in a space that is made once for all; where the input
     // fails, or the output takes no more, nothing is left.
     pub fn print_all(self, buffer: &mut [u8], at: usize) -> Option<State>
@@ -92,9 +102,7 @@ impl Printer {
         };
         let mut space = [0u8; BLOCK];
         for _ in 0..input::TURNS {
-            let filled = input::fill(&mut self.rt.stdin(), &mut space);
-            let count = printed_of(filled);
-            state = self.print_block(&space[..count], buffer, state);
+            let filled = self.print_some(&mut space, buffer, &mut state);
             if !state.out.open {
                 return None;
             }

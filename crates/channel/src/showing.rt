@@ -2,9 +2,9 @@
 ghost use Rattle.std.specs.Prelude.{◌≡◌, [], ◌∷◌, ◌≤◌, length};
 ghost use Rattle.texts.specs.Shown.{shown_bytes};
 ghost use Rattle.channel.specs.Text.{sheets_of};
-ghost use Rattle.channel.specs.Showing.{progress, sheets_shown, AllShown, TextShown};
+ghost use Rattle.channel.specs.Showing.{progress, sheets_shown, BlockShown, AllShown, TextShown};
 
-use crate::input::Stop;
+use crate::input::{Filled, Stop};
 use crate::output::Out;
 use crate::{input, output, sheets};
 
@@ -40,6 +40,16 @@ fn show_block(rt: HostRuntime, block: &[u8], buffer: &mut [u8], state: State) ->
     now
 }
 
+// The texts of one block of the input, full or to its end; where its read failed, those of the whole sheets before.
+fn show_some(rt: HostRuntime, space: &mut [u8], buffer: &mut [u8], state: &mut State) -> Filled
+    ensures { BlockShown (progress state.old buffer.old) (progress state.new buffer.new) result space.new }
+{
+    let filled = input::fill(&mut rt.stdin(), space);
+    let count = sheets::printed_of(filled);
+    *state = show_block(rt, &space[..count], buffer, *state);
+    filled
+}
+
 // Every sheet of standard input, from the beginning of the buffer on, each block in a space that is made once for all; where the
 // input fails, or the output takes no more, nothing is left.
 fn show_all(rt: HostRuntime, buffer: &mut [u8]) -> Option<State>
@@ -51,9 +61,7 @@ fn show_all(rt: HostRuntime, buffer: &mut [u8]) -> Option<State>
     };
     let mut space = [0u8; sheets::BLOCK];
     for _ in 0..input::TURNS {
-        let filled = input::fill(&mut rt.stdin(), &mut space);
-        let count = sheets::printed_of(filled);
-        state = show_block(rt, &space[..count], buffer, state);
+        let filled = show_some(rt, &mut space, buffer, &mut state);
         if !state.out.open {
             return None;
         }

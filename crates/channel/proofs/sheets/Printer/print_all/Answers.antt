@@ -12,21 +12,19 @@ pub loop-preserved : goal.loop-preserved
 loop-preserved c =
     let l = c.loop in
     let a = c.args in
-    let fill = c.fill-filled in
-    let step = c.print_block-state in
-    let long = fill.auto.space ∙ l.invariant.long in record {
+    let some = c.print_some-filled in
+    let long = some.auto.space ∙ l.invariant.long in record {
       long = long;
       read =
-          taken_on (printing a.self.form a.self.level) (at_first a.at a.buffer.now) (progress l.state l.buffer) (progress step.result step.new.buffer) fill.result fill.new.space
-          (rw l.invariant.long at fill.ensures) long c.printed_of-count.result c.printed_of-count.ensures step.ensures c.in-Full.is l.invariant.read;
+          taken_on (printing a.self.form a.self.level) (at_first a.at a.buffer.now) (progress l.state l.buffer) (progress some.new.state some.new.buffer) some.result some.new.space
+          (rw long at some.ensures.filling) long some.ensures.sheets_printed_is c.in-Full.is l.invariant.read;
     }
 
 pub returns-in-Ended : goal.returns-in-Ended
 returns-in-Ended c =
     let l = c.loop in
     let a = c.args in
-    let fill = c.fill-filled in
-    let step = c.print_block-state in
-    let long = fill.auto.space ∙ l.invariant.long in
-    taken_whole (printing a.self.form a.self.level) (at_first a.at a.buffer.now) (progress l.state l.buffer) (progress step.result step.new.buffer) fill.result fill.new.space
-    (rw l.invariant.long at fill.ensures) long c.printed_of-count.result c.printed_of-count.ensures step.ensures c.in-Ended.is l.invariant.read
+    let some = c.print_some-filled in
+    let long = some.auto.space ∙ l.invariant.long in
+    taken_whole (printing a.self.form a.self.level) (at_first a.at a.buffer.now) (progress l.state l.buffer) (progress some.new.state some.new.buffer) some.result some.new.space
+    (rw long at some.ensures.filling) long some.ensures.sheets_printed_is c.in-Ended.is l.invariant.read
