@@ -19,7 +19,8 @@ fn row_of_field(field: u8) -> usize
     ensures { (result ≡ row_of_field field) × (result < 28) }
 {
     match field {
-        0..=26 => (field as usize).saturating_sub(1),
+        0 => 0,
+        1..=26 => field as usize - 1,
         27..=28 => typed::LEVEL,
         _ => typed::LEVEL + 1,
     }
