@@ -1,10 +1,17 @@
 // The bands of currents and waves, line by line as (c), (d) and (e) of annex A of TCVN 9272:2012 (definition, section 5.2).
 // A band's lines are moderate then slow, since no sheet has a fast ship; a line has open water, then sheltered; a dash is a blank entry.
-ghost use Rattle.std.specs.Prelude.{◌≡◌};
-ghost use Rattle.width.specs.Bands.{cross_entry, along_item, wave_entry};
+ghost use Rattle.std.specs.Prelude.{◌≡◌, Some, None};
+ghost use Rattle.width.specs.Bands.{by◌in-open◌in-sheltered◌, cross_entry, along_item, wave_entry};
 
 use crate::{SpeedBand, Water};
 use datum::{AlongCurrent, CrossCurrent};
+
+// A line with a figure for open water and a dash for sheltered water.
+fn open_only(water: Water, outside: u8) -> Option<u8>
+    ensures { result ≡ (by water in-open (Some outside) in-sheltered None) }
+{
+    water.pick(Some(outside), None)
+}
 
 // (c) Cross current, in tenths of a knot: negligible, weak, moderate, strong.
 #[tactic(auto, unfolding(crate::specs::Bands::cross_entry))]
@@ -13,9 +20,18 @@ pub fn cross_entry(water: Water, band: SpeedBand, cross: CrossCurrent) -> Option
 {
     match cross.0 {
         0..=1 => Some(0),
-        2..=5 => Some(water.pick(band.pick(2, 3), band.pick(1, 2))),
-        6..=15 => Some(water.pick(band.pick(7, 10), band.pick(5, 8))),
-        _ => water.pick(Some(band.pick(10, 13)), None),
+        2..=5 => match band {
+            SpeedBand::Moderate => Some(water.pick(2, 1)),
+            SpeedBand::Slow => Some(water.pick(3, 2)),
+        },
+        6..=15 => match band {
+            SpeedBand::Moderate => Some(water.pick(7, 5)),
+            SpeedBand::Slow => Some(water.pick(10, 8)),
+        },
+        _ => match band {
+            SpeedBand::Moderate => open_only(water, 10),
+            SpeedBand::Slow => open_only(water, 13),
+        },
     }
 }
 
@@ -26,8 +42,14 @@ pub fn along_item(band: SpeedBand, along: AlongCurrent) -> u8
 {
     match along.0 {
         0..=14 => 0,
-        15..=30 => band.pick(1, 2),
-        _ => band.pick(2, 4),
+        15..=30 => match band {
+            SpeedBand::Moderate => 1,
+            SpeedBand::Slow => 2,
+        },
+        _ => match band {
+            SpeedBand::Moderate => 2,
+            SpeedBand::Slow => 4,
+        },
     }
 }
 
@@ -38,7 +60,13 @@ pub fn wave_entry(water: Water, band: SpeedBand, wave: u16) -> Option<u8>
 {
     match wave {
         0..=100 => Some(0),
-        101..=300 => water.pick(Some(band.pick(10, 5)), None),
-        _ => water.pick(Some(band.pick(22, 15)), None),
+        101..=300 => match band {
+            SpeedBand::Moderate => open_only(water, 10),
+            SpeedBand::Slow => open_only(water, 5),
+        },
+        _ => match band {
+            SpeedBand::Moderate => open_only(water, 22),
+            SpeedBand::Slow => open_only(water, 15),
+        },
     }
 }
