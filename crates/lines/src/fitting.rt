@@ -1,6 +1,6 @@
 // Bytes, counts and signed numbers for the rooms above, which have seen that they fit. Where they do not, nothing is put and the same
 // place is answered, so that nothing is asked of a caller.
-ghost use Rattle.std.specs.Prelude.{◌≡◌, [], ◌∷◌, ◌+◌, ◌≤◌, ◌<◌, length};
+ghost use Rattle.std.specs.Prelude.{◌≡◌, [], ◌∷◌, ◌+◌, ◌≤◌, length};
 ghost use Rattle.lines.specs.Decimals.{count_text, number_text};
 ghost use Rattle.lines.specs.Lines.{place_within, buffer_within, count_bytes, number_bytes, Put};
 
